@@ -1,5 +1,5 @@
 -- `bound` suffices for each token of a page or a fragment.
-use Rattle.std.proofs.Common.{List, [], codes, false, inl, inr, map, refl, sym, true, true≢false, ℕ, ◌∙◌, ◌∷◌, ◌≡◌}
+use Rattle.std.proofs.Common.{List, [], codes, false, inl, inr, map, refl, sym, true, true≢false, ℕ, ◌∙◌, ◌∷◌, ◌≡◌, Some, suc}
 use Rattle.std.specs.Prelude.{⊤}
 use Rattle.std.proofs.lemmas.Bool.{cases_Bool}
 use Rattle.tl_html_spec.specs.Balanced.{words}
@@ -8,10 +8,10 @@ use Rattle.tl_html_spec.specs.HtmlTokenizer.{Character, CommentToken, DoctypeTok
 use Rattle.tl_dom_spec.specs.Tags.{html_tag, is_any}
 use Rattle.tl_dom_spec.specs.Groups.{group}
 use Rattle.tl_dom_spec.specs.Builder.{Flags, Token}
-use Rattle.tl_dom_spec.specs.Dispatcher.{tokens_done}
+use Rattle.tl_dom_spec.specs.Dispatcher.{numbered, starts_behind, tokens_done}
 use Rattle.tl_dom_spec.specs.Driver.{emitted_token, token_of}
 use Rattle.tl_dom_spec.specs.HtmlTree.{Context, fragment_start, page_start}
-use Rattle.tl_dom_spec.specs.Lawful.{IsDoneWith}
+use Rattle.tl_dom_spec.specs.Lawful.{IsDoneWith, all_numbered}
 use Rattle.tl_dom_spec.proofs.Words.{any_word}
 use Rattle.tl_dom_spec.proofs.Allowed.{Allowed, Each}
 use Rattle.tl_dom_spec.proofs.HeadRules.{Allows, Starts, is_listed_group}
@@ -32,8 +32,8 @@ not_any names name attributes k e = elim (cases_Bool (is_any names (html_tag nam
   | inr n ↦ n
 ]
 
-grouped_start : (name : List ℕ) (attributes : List HtmlAttribute) → Starts grouped (group name) (html_tag name attributes)
-grouped_start name attributes = record {
+grouped_start : (n : ℕ) (name : List ℕ) (attributes : List HtmlAttribute) → Starts grouped (group name) (record (html_tag name attributes) { source = Some n })
+grouped_start n name attributes = record {
   opens = λ _. tt;
   alone = tt;
   image = λ _. tt;
@@ -47,24 +47,24 @@ grouped_start name attributes = record {
   listed = λ _ e. (not_any (codes "table") name attributes (refl, tt) e, not_any (codes "template") name attributes (refl, tt) e);
 }
 
-grouped_token : (token : HtmlToken) → Allows grouped (token_of token)
-grouped_token (Character c) = tt
-grouped_token (StartTag name attributes closes) = grouped_start name attributes
-grouped_token (EndTag name) = tt
-grouped_token (CommentToken bytes) = tt
-grouped_token DoctypeToken = tt
+grouped_token : (n : ℕ) (token : HtmlToken) → Allows grouped (numbered n (token_of token))
+grouped_token n (Character c) = tt
+grouped_token n (StartTag name attributes closes) = grouped_start n name attributes
+grouped_token n (EndTag name) = tt
+grouped_token n (CommentToken bytes) = tt
+grouped_token n DoctypeToken = tt
 
-grouped_emissions : (emissions : List Emission) → Each (Allows grouped) (map emitted_token emissions)
-grouped_emissions [] = tt
-grouped_emissions (plain token ∷ emissions) = (grouped_token token, grouped_emissions emissions)
-grouped_emissions (doctype_of own ∷ emissions) = (tt, grouped_emissions emissions)
+grouped_emissions : (n : ℕ) (emissions : List Emission) → Each (Allows grouped) (all_numbered n (map emitted_token emissions))
+grouped_emissions n [] = tt
+grouped_emissions n (plain token ∷ emissions) = (grouped_token n token, grouped_emissions (starts_behind n (token_of token)) emissions)
+grouped_emissions n (doctype_of own ∷ emissions) = (tt, grouped_emissions n emissions)
 
 pub page_done : (flags : Flags) (emissions : List Emission) (token : Token) → IsDoneWith (tokens_done (page_start flags) (map emitted_token emissions)) token
 page_done flags emissions token =
-    let held = tokens-Holds grouped (page_start flags) (map emitted_token emissions) (grouped_emissions emissions) (page_start-Holds grouped flags tt tt) in
+    let held = tokens-Holds grouped (page_start flags) (map emitted_token emissions) (grouped_emissions 0 emissions) (page_start-Holds grouped flags tt tt) in
     bound_suffices token (tokens_done (page_start flags) (map emitted_token emissions)) (held.1 tt)
 
 pub fragment_done : (flags : Flags) (context : Context) (emissions : List Emission) (token : Token) → IsDoneWith (tokens_done (fragment_start flags context) (map emitted_token emissions)) token
 fragment_done flags context emissions token =
-    let held = tokens-Holds grouped (fragment_start flags context) (map emitted_token emissions) (grouped_emissions emissions) (fragment_start-Holds grouped flags context tt tt tt) in
+    let held = tokens-Holds grouped (fragment_start flags context) (map emitted_token emissions) (grouped_emissions 0 emissions) (fragment_start-Holds grouped flags context tt tt tt) in
     bound_suffices token (tokens_done (fragment_start flags context) (map emitted_token emissions)) (held.1 tt)

@@ -10,11 +10,11 @@ use Rattle.tl_dom_spec.specs.Groups.{Group, a_break, a_paragraph}
 use Rattle.tl_dom_spec.specs.Path.{Path, document, elements, has_number, top}
 use Rattle.tl_dom_spec.specs.Builder.{Again, Builder, Done, Flags, Mode, Token, a_character, a_comment, a_doctype, a_start, adjusted_current_node, adjusted_tag, after_after_body, after_after_frameset, after_body, after_frameset, after_head, an_end, before_head, before_html, end_of_file, frameset_not_ok, in_body, in_caption, in_cell, in_column_group, in_frameset, in_head, in_head_noscript, in_row, in_table, in_table_body, in_table_text, in_template, initial, insert_bytes, insert_character, is_only, repeated, text_mode}
 use Rattle.tl_dom_spec.specs.Adjusted.{foreign_name, insert_foreign_element}
-use Rattle.tl_dom_spec.specs.Dispatcher.{Found, bound, breaks_out, broken_out, by_mode, calm, count_token, dispatch, excess_of, foreign_character, foreign_end, foreign_end_at, foreign_start, foreign_step, found_in, html_step, is_html_content, is_html_place, is_line_feed, is_svg_start, mode_step, nothing, the_frame, token_done, tokens_done}
+use Rattle.tl_dom_spec.specs.Dispatcher.{Found, bound, breaks_out, broken_out, by_mode, calm, count_token, dispatch, excess_of, foreign_character, foreign_end, foreign_end_at, foreign_start, foreign_step, found_in, html_step, is_html_content, is_html_place, is_line_feed, is_svg_start, mode_step, nothing, numbered, the_frame, token_done, tokens_done}
 use Rattle.tl_dom_spec.specs.HtmlTree.{Context, fragment_start, page_start}
 use Rattle.tl_dom_spec.proofs.Allowed.{Allowed, Each, IfSome}
 use Rattle.tl_dom_spec.proofs.Paths.{Frames, top-opens}
-use Rattle.tl_dom_spec.specs.Lawful.{is_text_mode}
+use Rattle.tl_dom_spec.specs.Lawful.{all_numbered, is_text_mode}
 use Rattle.tl_dom_spec.proofs.Steady.{fragment-steady, page-steady}
 use Rattle.tl_dom_spec.proofs.Kept.{Holds, HoldsAfter, bytes-Holds, character-Holds, comment-Holds, either, either-after, excess-Holds, popped_through-Holds, popped_to-Holds, reads-Holds, repeated-Holds}
 use Rattle.tl_dom_spec.proofs.HeadRules.{Allows, Starts, after_head_step-Holds, before_head_step-Holds, before_html_step-Holds, in_head_noscript_step-Holds, in_head_step-Holds, initial_step-Holds, text_step-Holds}
@@ -140,15 +140,16 @@ count-Holds R b h =
     (λ e. excess-Holds R (excess_of taken) taken (R.grows b.excess (excess_of taken) (omega (arith, ltb-true b.excess (excess_of taken) e)) h.0.3.excess) h)
     (λ _. h)
 
-pub token-Holds : (R : Allowed) (b : Builder) (token : Token) → Allows R token → Holds R b → Holds R (token_done b token)
+pub token-Holds : (R : Allowed) (b : Builder) (token : Token) → Allows R (numbered b.starts token) → Holds R b → Holds R (token_done b token)
 token-Holds R b token k h =
-    let taken : Builder = if b.skips && is_line_feed token then calm b else repeated (bound b) (dispatch token) (Again (calm b)) in
+    let own : Token = numbered b.starts token in
+    let taken : Builder = if b.skips && is_line_feed token then calm b else repeated (bound b) (dispatch own) (Again (calm b)) in
     count-Holds R taken
-    (either R (b.skips && is_line_feed token) (calm b) (repeated (bound b) (dispatch token) (Again (calm b)))
+    (either R (b.skips && is_line_feed token) (calm b) (repeated (bound b) (dispatch own) (Again (calm b)))
     (calm-Holds R b h)
-    (repeated-Holds R (bound b) (dispatch token) (Again (calm b)) (λ c i. dispatch-Holds R token c k i) (calm-Holds R b h)))
+    (repeated-Holds R (bound b) (dispatch own) (Again (calm b)) (λ c i. dispatch-Holds R own c k i) (calm-Holds R b h)))
 
-pub tokens-Holds : (R : Allowed) (b : Builder) (tokens : List Token) → Each (Allows R) tokens → Holds R b → Holds R (tokens_done b tokens)
+pub tokens-Holds : (R : Allowed) (b : Builder) (tokens : List Token) → Each (Allows R) (all_numbered b.starts tokens) → Holds R b → Holds R (tokens_done b tokens)
 tokens-Holds R b [] k h = h
 tokens-Holds R b (token ∷ tokens) k h = tokens-Holds R (token_done b token) tokens k.1 (token-Holds R b token k.0 h)
 

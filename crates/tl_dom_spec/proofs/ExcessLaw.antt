@@ -16,6 +16,7 @@ use Rattle.tl_dom_spec.proofs.HeadRules.{Allows, Starts}
 use Rattle.tl_dom_spec.proofs.DispatcherRules.{tokens-Holds}
 use Rattle.tl_dom_spec.proofs.TextLaw.{anything}
 use Rattle.tl_dom_spec.proofs.TreesFollow.{taken_tokens}
+use Rattle.tl_dom_spec.specs.Lawful.{all_numbered}
 
 no_less : (n m k : ℕ) → n ≤ m → m ≤ k → n ≤ k
 no_less n m k h l = omega (arith, h, l)
@@ -95,7 +96,7 @@ any_builder b = (
 -- so no token makes it less
 
 pub tokens_excess : (b : Builder) (tokens : List Token) → b.excess ≤ (tokens_done b tokens).excess
-tokens_excess b tokens = (tokens-Holds (at_least b.excess) b tokens (least_tokens b.excess tokens) (any_builder b)).0.3.excess
+tokens_excess b tokens = (tokens-Holds (at_least b.excess) b tokens (least_tokens b.excess (all_numbered b.starts tokens)) (any_builder b)).0.3.excess
 
 pub token_excess : (b : Builder) (token : Token) → b.excess ≤ (token_done b token).excess
 token_excess b token = tokens_excess b (token ∷ [])

@@ -47,6 +47,8 @@ pub mod SeatedPages
 pub mod SeatedEnd
 pub mod PlainNames
 pub mod PlainLaw
+pub mod NumberLaw
+pub mod PartSources
 pub mod PartNames
 pub mod PartPaths
 pub mod PartBuilders

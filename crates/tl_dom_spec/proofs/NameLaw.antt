@@ -1,5 +1,5 @@
 -- The name of no element is empty.
-use Rattle.std.proofs.Common.{List, [], codes, inl, inr, map, subst, sym, true, true≢false, ℕ, ◌&&◌, ◌∷◌, ◌≡◌}
+use Rattle.std.proofs.Common.{List, [], codes, inl, inr, map, subst, sym, true, true≢false, ℕ, ◌&&◌, ◌∷◌, ◌≡◌, Some, suc}
 use Rattle.std.specs.Prelude.{⊤}
 use Rattle.std.specs.Char.{to_ascii_lowercase}
 use Rattle.std.specs.Str.{bytes_eq}
@@ -17,7 +17,7 @@ use Rattle.tl_dom_spec.specs.Adjusted.{cased, foreign_name, svg_names}
 use Rattle.tl_dom_spec.specs.Driver.{builder, emitted_token, token_of}
 use Rattle.tl_dom_spec.specs.HtmlForest.{HtmlForest}
 use Rattle.tl_dom_spec.specs.HtmlTree.{Context, context_state, fragment_start, html_fragment_by, html_tree_by, is_raw_in, page_start, tree_of_tokens}
-use Rattle.tl_dom_spec.specs.Lawful.{AreNamed, HaveNames, fragment_built, page_built, tokens_of_fragment, tokens_of_page}
+use Rattle.tl_dom_spec.specs.Lawful.{AreNamed, HaveNames, all_numbered, fragment_built, page_built, tokens_of_fragment, tokens_of_page}
 use Rattle.tl_dom_spec.proofs.Allowed.{Allowed, Each}
 use Rattle.tl_dom_spec.proofs.HeadRules.{Allows, Starts}
 use Rattle.tl_dom_spec.proofs.TreesFollow.{Follows, Owned, fragment-Follows, fragment_is, page-Follows, page_is}
@@ -25,6 +25,7 @@ use Rattle.tl_dom_spec.proofs.TextLaw.{anything, elements-weaken}
 use Rattle.tl_dom_spec.proofs.Kept.{Holds}
 use Rattle.tl_dom_spec.proofs.DispatcherRules.{fragment_start-Holds, page_start-Holds, token-Holds}
 use Rattle.tl_dom_spec.proofs.StartNames.{IsNamed, after_named, driven_names}
+use Rattle.tl_dom_spec.specs.Dispatcher.{numbered}
 
 word_some : (name word : List ℕ) → bytes_eq name (map to_ascii_lowercase word) ≡ true → IsSome name → IsSome word
 word_some name (c ∷ word) e s = tt
@@ -86,14 +87,14 @@ named_start g t s = record {
   listed = λ y _. absurd y;
 }
 
-pub named_tokens : (tokens : List Token) → HaveNames tokens → Each (Allows named) tokens
-named_tokens [] s = tt
-named_tokens (a_character c ∷ tokens) s = (tt, named_tokens tokens s)
-named_tokens (a_start g t closes ∷ tokens) s = (named_start g t s.0, named_tokens tokens s.1)
-named_tokens (an_end g name ∷ tokens) s = (tt, named_tokens tokens s)
-named_tokens (a_comment bytes ∷ tokens) s = (tt, named_tokens tokens s)
-named_tokens (a_doctype own ∷ tokens) s = (tt, named_tokens tokens s)
-named_tokens (end_of_file ∷ tokens) s = (tt, named_tokens tokens s)
+pub named_tokens : (n : ℕ) (tokens : List Token) → HaveNames tokens → Each (Allows named) (all_numbered n tokens)
+named_tokens n [] s = tt
+named_tokens n (a_character c ∷ tokens) s = (tt, named_tokens n tokens s)
+named_tokens n (a_start g t closes ∷ tokens) s = (named_start g (record t { source = Some n }) s.0, named_tokens (suc n) tokens s.1)
+named_tokens n (an_end g name ∷ tokens) s = (tt, named_tokens n tokens s)
+named_tokens n (a_comment bytes ∷ tokens) s = (tt, named_tokens n tokens s)
+named_tokens n (a_doctype own ∷ tokens) s = (tt, named_tokens n tokens s)
+named_tokens n (end_of_file ∷ tokens) s = (tt, named_tokens n tokens s)
 
 pub sound_names : (tokens : List HtmlToken) → AreSound tokens → HaveNames (map token_of tokens)
 sound_names [] s = tt
@@ -111,11 +112,11 @@ pub names_of : (trees : HtmlForest) → Follows named trees → AreNamed trees
 names_of trees f = elements-weaken (Owned named) (λ tag below. IsSome tag.name) trees some_name f.elements
 
 pub built_names : (flags : Flags) (tokens : List Token) → HaveNames tokens → AreNamed (page_built flags tokens).trees
-built_names flags tokens s = names_of (page_built flags tokens).trees (page-Follows named flags tokens tt tt (named_tokens tokens s))
+built_names flags tokens s = names_of (page_built flags tokens).trees (page-Follows named flags tokens tt tt (named_tokens 0 tokens s))
 
 pub built_fragment_names : (flags : Flags) (context : Context) (tokens : List Token) → HaveNames tokens → AreNamed (fragment_built flags context tokens)
 built_fragment_names flags context tokens s =
-    names_of (fragment_built flags context tokens) (fragment-Follows named flags context tokens tt tt tt (named_tokens tokens s))
+    names_of (fragment_built flags context tokens) (fragment-Follows named flags context tokens tt tt tt (named_tokens 0 tokens s))
 
 -- the tokenizer is set to such states alone as have nothing to do with a tag
 abbrev reading : Allowed
@@ -149,7 +150,7 @@ reading_token end_of_file = tt
 
 names_from : (b : Builder) (state : State) (text : List ℕ) → Holds reading b → IsNamed state → HaveNames (map emitted_token (driven_tokens builder (driving b (in_state state)) text))
 names_from b state text h s =
-    driven_names builder (Holds reading) (λ b e h. token-Holds reading b (emitted_token e) (reading_token (emitted_token e)) h) (λ b h. h.0.3.state)
+    driven_names builder (Holds reading) (λ b e h. token-Holds reading b (emitted_token e) (reading_token (numbered b.starts (emitted_token e))) h) (λ b h. h.0.3.state)
     (driving b (in_state state)) text h s
 
 pub page_starts : (flags : Flags) (page : List ℕ) → HaveNames (tokens_of_page flags page)

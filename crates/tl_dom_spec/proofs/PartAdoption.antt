@@ -22,6 +22,7 @@ use Rattle.tl_dom_spec.proofs.PartSound.{active_sound, agrees_unlisted, flow_top
 use Rattle.tl_dom_spec.proofs.PartClose.{close_in, scope_same}
 use Rattle.tl_dom_spec.proofs.PartTests.{closes_named, not_html, same_name, scope_covers, special_covers}
 use Rattle.tl_dom_spec.proofs.PartBody.{Goes, closed_mode, popped_current, special_same, stays}
+use Rattle.tl_dom_spec.proofs.PartSources.{bare_frame, bare_listed, bare_path, elements-bare, found-bare, is_listed-bare, is_open_number-bare, listed-bare, nothing-bare, open-bare, outermost-bare, popped_through-bare, top-bare, unlisted-bare}
 
 -- groups of formatting elements
 
@@ -86,7 +87,7 @@ module _ {b : P.Builder} {c : B.Builder} (a : Alike b c) (k : P.is_flow b.mode �
       sound = active_sound b (P.unlisted e.number b.active) a.sound (unlisted_listed e.number b.next b.active (a.sound).entries)
           (numbers_by b.next b.active (P.unlisted e.number b.active) (frames_of b.stack) (λ f. agrees_unlisted f e.number b.active) (a.sound).numbers);
       like = with_active a.like (P.unlisted e.number b.active) (F.unlisted (suc e.number) c.active)
-          (ap (F.unlisted (suc e.number)) (a.like).active ∙ unlisted_is e.number b.next b.active (a.sound).entries);
+          (unlisted-bare (suc e.number) c.active ∙ ap (F.unlisted (suc e.number)) (a.like).active ∙ unlisted_is e.number b.next b.active (a.sound).entries);
     };
     mode = refl;
   }
@@ -109,7 +110,8 @@ module _ {b : P.Builder} {c : B.Builder} (a : Alike b c) (k : P.is_flow b.mode �
       record {
         sound = popped_sound b s h t.1;
         like = with_path a.like s (W.popped_through (W.has_number (suc e.number)) c.path)
-            (ap (W.popped_through (W.has_number (suc e.number))) (a.like).path
+            (popped_through-bare (W.has_number (suc e.number)) (W.has_number (suc e.number)) (λ _. refl) c.path
+            ∙ ap (W.popped_through (W.has_number (suc e.number))) (a.like).path
             ∙ through_is (P.has_number e.number) (W.has_number (suc e.number)) (λ f. sym (eq_suc f.element.number e.number)) b.stack t.0);
       } in
       record {
@@ -117,7 +119,7 @@ module _ {b : P.Builder} {c : B.Builder} (a : Alike b c) (k : P.is_flow b.mode �
           sound = active_sound (P.with_stack b s) (P.unlisted e.number b.active) popped.sound (unlisted_listed e.number b.next b.active h.entries)
               (numbers_by b.next b.active (P.unlisted e.number b.active) (frames_of s) (λ f. agrees_unlisted f e.number b.active) (popped.sound).numbers);
           like = with_active popped.like (P.unlisted e.number b.active) (F.unlisted (suc e.number) c.active)
-              (ap (F.unlisted (suc e.number)) (a.like).active ∙ unlisted_is e.number b.next b.active h.entries);
+              (unlisted-bare (suc e.number) c.active ∙ ap (F.unlisted (suc e.number)) (a.like).active ∙ unlisted_is e.number b.next b.active h.entries);
         };
         mode = refl;
       }
@@ -133,16 +135,18 @@ module _ {b : P.Builder} {c : B.Builder} (a : Alike b c) (k : P.is_flow b.mode �
       let is : R.other_ended b n ≡ r = cc in
       record {
         whole = A.any_other_end_tag n c;
-        done = ap (A.with_formatting n c) (ap (F.listed n) (a.like).active ∙ listed_is n b.active ∙ ap (option_map listed_as) e);
+        done = ap (A.with_formatting n c) (nothing-bare bare_listed (F.listed n c.active) (listed-bare n c.active ∙ ap (F.listed n) (a.like).active ∙ listed_is n b.active ∙ ap (option_map listed_as) e));
         goes = subst (λ (q : P.Builder). Goes b q (A.any_other_end_tag n c)) is (any_other a k n (formatting_apart (G.group n) g) (not_html n (formatting_elsewhere n g)));
       }
   with_listed r (Some x) e h =
-      let listed : A.adoption_round n c ≡ A.with_formatting n c (Some (listed_as x)) =
-      ap (A.with_formatting n c) (ap (F.listed n) (a.like).active ∙ listed_is n b.active ∙ ap (option_map listed_as) e) in
+      let found = found-bare (F.listed n c.active) (suc x.number) (tag_of x.own) (listed-bare n c.active ∙ ap (F.listed n) (a.like).active ∙ listed_is n b.active ∙ ap (option_map listed_as) e) in
+      let own : F.Listed = record { number = suc x.number; tag = found.own } in
+      let listed : A.adoption_round n c ≡ A.with_formatting n c (Some own) = ap (A.with_formatting n c) found.is in
       let open_is : W.is_open_number (suc x.number) c.path ≡ P.is_open x.number (P.elements b.stack) =
-      ap (W.is_open_number (suc x.number)) (a.like).path ∙ is_open_number x.number b.stack in
+      is_open_number-bare (suc x.number) c.path ∙ ap (W.is_open_number (suc x.number)) (a.like).path ∙ is_open_number x.number b.stack in
       let scope_is : W.within (W.has_number (suc x.number)) (W.has_tag T.is_scope) (W.elements c.path) ≡ P.within (P.has_number x.number) (P.has_name H.is_scope) (P.elements b.stack) =
-      ap (λ (p : W.Path). W.within (W.has_number (suc x.number)) (W.has_tag T.is_scope) (W.elements p)) (a.like).path
+      open-bare (W.has_number (suc x.number)) (W.has_tag T.is_scope) (W.has_number (suc x.number)) (W.has_tag T.is_scope) (λ _. refl) (λ _. refl) c.path
+      ∙ ap (λ (p : W.Path). W.within (W.has_number (suc x.number)) (W.has_tag T.is_scope) (W.elements p)) (a.like).path
       ∙ has_number_within x.number H.is_scope T.is_scope b.stack (scope_same b.stack.current b.stack.others (a.sound).stack) in
       elim (cases_Bool (P.is_open x.number (P.elements b.stack))) [
         | inr n₀ ↦ (
@@ -168,12 +172,13 @@ module _ {b : P.Builder} {c : B.Builder} (a : Alike b c) (k : P.is_flow b.mode �
                 let is : record b { stack = P.popped_through (P.has_number x.number) b.stack.current b.stack.others; active = P.unlisted x.number b.active } ≡ r =
                 some_is (sym (cond-false _ _ _ (ap not y₀) ∙ cond-false _ _ _ (ap not y₁) ∙ cond-false _ _ _ n₂) ∙ h) in
                 let block : A.furthest_block (suc x.number) c ≡ None =
-                ap (λ (p : W.Path). A.outermost (T.is_special c.flags.counts_search) (suc x.number) None (W.elements p)) (a.like).path
-                ∙ ap (A.outermost (T.is_special c.flags.counts_search) (suc x.number) None) (elements_are (frames_of b.stack))
-                ∙ no_furthest (R.is_special_in b) (T.is_special c.flags.counts_search) (special_same a.like) x.number (frames_of b.stack) n₂ in
+                nothing-bare bare_frame (A.furthest_block (suc x.number) c)
+                (outermost-bare (T.is_special c.flags.counts_search) (suc x.number) None (W.elements c.path)
+                ∙ ap (A.outermost (T.is_special c.flags.counts_search) (suc x.number) None) (elements-bare c.path ∙ ap W.elements (a.like).path ∙ elements_are (frames_of b.stack))
+                ∙ no_furthest (R.is_special_in b) (T.is_special c.flags.counts_search) (special_same a.like) x.number (frames_of b.stack) n₂) in
                 record {
                   whole = record c { path = W.popped_through (W.has_number (suc x.number)) c.path; active = F.unlisted (suc x.number) c.active };
-                  done = listed ∙ cond-false _ _ _ (ap not (open_is ∙ y₀)) ∙ cond-false _ _ _ (ap not (scope_is ∙ y₁)) ∙ ap (A.with_block c (listed_as x)) block;
+                  done = listed ∙ cond-false _ _ _ (ap not (open_is ∙ y₀)) ∙ cond-false _ _ _ (ap not (scope_is ∙ y₁)) ∙ ap (A.with_block c own) block;
                   goes = subst (λ (q : P.Builder). Goes b q (record c { path = W.popped_through (W.has_number (suc x.number)) c.path; active = F.unlisted (suc x.number) c.active })) is
                       (through_both x (found_entry n x b.next b.active e (a.sound).entries) y₁);
                 })
@@ -191,7 +196,9 @@ module _ {b : P.Builder} {c : B.Builder} (a : Alike b c) (k : P.is_flow b.mode �
   adoption r h =
       let test : (T.is_named n (B.current_node c).tag && not (F.is_listed (B.current_node c).number c.active))
       ≡ (bytes_eq n (name_of b.stack.current) && not (P.is_listed b.stack.current.element.number b.active)) =
-      ap₂ (λ (p : W.Path) (es : List B.Entry). T.is_named n (W.top p).tag && not (F.is_listed (W.top p).number es)) (a.like).path (a.like).active
+      ap (λ (f : W.Frame). T.is_named n f.tag && not (F.is_listed f.number c.active)) (top-bare c.path)
+      ∙ ap (λ v. T.is_named n (W.top (bare_path c.path)).tag && not v) (is_listed-bare (W.top (bare_path c.path)).number c.active)
+      ∙ ap₂ (λ (p : W.Path) (es : List B.Entry). T.is_named n (W.top p).tag && not (F.is_listed (W.top p).number es)) (a.like).path (a.like).active
       ∙ ap (λ v. bytes_eq n (name_of b.stack.current) && not v) (is_listed_is b.stack.current.element.number b.active) in
       elim (cases_Bool (bytes_eq n (name_of b.stack.current) && not (P.is_listed b.stack.current.element.number b.active))) [
         | inl y ↦ (

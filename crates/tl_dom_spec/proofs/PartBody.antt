@@ -1,5 +1,5 @@
 -- The rules of "in body", side by side.
-use Rattle.std.proofs.Common.{◌≡◌, ℕ, Bool, true, false, not, ◌||◌, ◌&&◌, ◌==◌, List, [], ◌∷◌, map, Option, Some, None, codes, refl, ap, ap₂, sym, ◌∙◌, subst, inl, inr, true≢false, if◌then◌else◌}
+use Rattle.std.proofs.Common.{Bool, List, None, Option, Some, [], ap, ap₂, codes, false, if◌then◌else◌, inl, inr, map, not, refl, subst, sym, true, true≢false, ℕ, ◌&&◌, ◌==◌, ◌||◌, ◌∙◌, ◌∷◌, ◌≡◌}
 use Rattle.std.specs.Char.{is_ascii_whitespace}
 use Rattle.std.specs.Str.{bytes_eq}
 use Rattle.std.proofs.lemmas.Bool.{and_parts, cases_Bool, cond-false, cond-true, or_parts, or_right}
@@ -16,12 +16,15 @@ use Rattle.tl_dom_spec.specs.Builder as B
 use Rattle.tl_dom_spec.specs.Formatting as F
 use Rattle.tl_dom_spec.specs.Body as D
 use Rattle.tl_dom_spec.proofs.PartNames.{facts}
-use Rattle.tl_dom_spec.proofs.PartPaths.{AreSame, IsStack, elements_are, frame_of, frames_of, name_of, path_of, same_all, tag_of}
+use Rattle.tl_dom_spec.proofs.PartPaths.{AreSame, IsStack, elements_are, frame_of, frames_of, name_of, path_of, same_all, tag_of, tag_with}
 use Rattle.tl_dom_spec.proofs.PartBuilders.{Alike, AreNumbered, Like, Sound, Stand, is_cell_or_caption, is_formatting_group}
 use Rattle.tl_dom_spec.proofs.PartOps.{alone, character, formatted, frameset_not_ok, inserted, reconstructed, with_path}
 use Rattle.tl_dom_spec.proofs.PartSound.{Popped, alone_sound, character_sound, formatted_sound, group_of, inserted_sound, is_plain, plain_popped, popped_sound, reconstructed_sound, under}
 use Rattle.tl_dom_spec.proofs.PartClose.{button_scope_same, close, close_in}
 use Rattle.tl_dom_spec.proofs.PartTests.{each_name, closes_item, closes_named, closes_p, item_bound_covers, not_html, turned}
+use Rattle.tl_dom_spec.proofs.PartSources.{closed_item-bare, earlier-bare, elements-bare, popped-bare, seen, top-bare}
+use Rattle.tl_dom_spec.specs.Partial.{unnumbered}
+use Rattle.std.specs.Prelude.{option_map}
 
 -- both after a rule, with the mode of before
 pub record Goes (b r : P.Builder) (c : B.Builder) : Type 0 where
@@ -58,21 +61,21 @@ module _ {b : P.Builder} {c : B.Builder} (a : Alike b c) (k : P.is_flow b.mode �
     mode = closed_mode H.is_button_scope G.is_paragraph G.is_paragraph b;
   }
 
-  pub put : (own : HtmlTag) → is_plain (G.group own.name) ≡ true → Goes b (P.inserted b own) (B.insert_element (tag_of own) c)
-  put own plain = record {
-    alike = record { sound = inserted_sound b own a.sound k plain; like = inserted a.like own };
+  pub put : (own : HtmlTag) (source : Option ℕ) → is_plain (G.group own.name) ≡ true → Goes b (P.inserted b own) (B.insert_element (tag_with source own) c)
+  put own source plain = record {
+    alike = record { sound = inserted_sound b own a.sound k plain; like = inserted a.like own source };
     mode = refl;
   }
 
-  pub put_alone : (own : HtmlTag) → Goes b (P.alone b own) (B.insert_and_pop (tag_of own) c)
-  put_alone own = record {
-    alike = record { sound = alone_sound b own a.sound; like = alone a.like own };
+  pub put_alone : (own : HtmlTag) (source : Option ℕ) → Goes b (P.alone b own) (B.insert_and_pop (tag_with source own) c)
+  put_alone own source = record {
+    alike = record { sound = alone_sound b own a.sound; like = alone a.like own source };
     mode = refl;
   }
 
-  pub put_formatting : (own : HtmlTag) → is_formatting_group (G.group own.name) ≡ true → Goes b (P.formatted b own) (F.insert_formatting_element (tag_of own) c)
-  put_formatting own g = record {
-    alike = record { sound = formatted_sound b own a.sound k g; like = formatted a.like own };
+  pub put_formatting : (own : HtmlTag) (source : Option ℕ) → is_formatting_group (G.group own.name) ≡ true → Goes b (P.formatted b own) (F.insert_formatting_element (tag_with source own) c)
+  put_formatting own source g = record {
+    alike = record { sound = formatted_sound b own a.sound k g; like = formatted a.like own source };
     mode = refl;
   }
 
@@ -112,14 +115,14 @@ popped_current {b = b} {c = c} a k plain = from b.stack.others refl
           alike = record {
             sound = subst (λ (t : P.Stack). Sound (P.with_stack b t)) (sym is) (popped_sound b s a.sound p);
             like = subst (λ (t : P.Stack). Like (P.with_stack b t) (B.pop_current_node c)) (sym is)
-                (with_path a.like s (W.popped c.path) (ap W.popped ((a.like).path ∙ ap (λ os. path_of (f ∷ os)) e)));
+                (with_path a.like s (W.popped c.path) (popped-bare c.path ∙ ap W.popped ((a.like).path ∙ ap (λ os. path_of (f ∷ os)) e)));
           };
           mode = refl;
         }
 
 -- tests of the current element
-pub current_tag_is : {b : P.Builder} {c : B.Builder} (h : Like b c) → B.current_tag c ≡ tag_of b.stack.current.element.own
-current_tag_is h = ap (λ (p : W.Path). (W.top p).tag) h.path
+pub current_tag_is : {b : P.Builder} {c : B.Builder} (h : Like b c) → unnumbered (B.current_tag c) ≡ tag_of b.stack.current.element.own
+current_tag_is {c = c} h = ap (λ (f : W.Frame). f.tag) (top-bare c.path) ∙ ap (λ (p : W.Path). (W.top p).tag) h.path
 
 heading_plain : (g : G.Group) → G.is_heading_group g ≡ true → is_plain g ≡ true
 heading_plain G.a_heading h = refl
@@ -209,10 +212,10 @@ module _ {b : P.Builder} {c : B.Builder} (a : Alike b c) (k : P.is_flow b.mode �
   bounded = T.is_item_bound c.flags.counts_search
 
   abbrev looked : (Tag → Bool) → Option Tag
-  looked tested = D.earlier_item tested bounded (W.elements c.path)
+  looked tested = D.earlier_item (seen tested) (seen bounded) (W.elements c.path)
 
-  looked_is : (tested : Tag → Bool) → looked tested ≡ D.earlier_item tested bounded (map frame_of (frames_of b.stack))
-  looked_is tested = ap (D.earlier_item tested bounded) (ap W.elements (a.like).path ∙ elements_are (frames_of b.stack))
+  looked_is : (tested : Tag → Bool) → option_map unnumbered (looked tested) ≡ D.earlier_item tested bounded (map frame_of (frames_of b.stack))
+  looked_is tested = earlier-bare tested bounded (W.elements c.path) ∙ ap (D.earlier_item tested bounded) (elements-bare c.path ∙ ap W.elements (a.like).path ∙ elements_are (frames_of b.stack))
 
   same_bounds : AreSame (R.is_item_bound_in b) bounded (frames_of b.stack)
   same_bounds = same_all (R.is_item_bound_in b) bounded (item_bound_same a.like) (frames_of b.stack)
@@ -227,7 +230,7 @@ module _ {b : P.Builder} {c : B.Builder} (a : Alike b c) (k : P.is_flow b.mode �
         let same : (own : HtmlTag) → G.is_item own.name ≡ T.is_named (e.own).name (tag_of own) =
         λ own. (facts own.name).item ∙ or_none (bytes_eq own.name (codes "li")) ∙ turned own.name (codes "li") ∙ ap (λ n. bytes_eq n own.name) li in
         subst (λ (r : P.Builder). Goes b r (D.item_closed_at (looked (T.is_any (codes "li"))) c)) (sym (cond-true _ _ _ y))
-        (subst (λ o. Goes b (P.with_stack b (P.closed_through G.is_item G.is_item b.stack)) (D.item_closed_at o c)) (sym (looked_is (T.is_any (codes "li")) ∙ e.is))
+        (subst (Goes b (P.with_stack b (P.closed_through G.is_item G.is_item b.stack))) (sym (closed_item-bare (looked (T.is_any (codes "li"))) c ∙ ap (λ o. D.item_closed_at o c) (looked_is (T.is_any (codes "li")) ∙ e.is)))
         (record {
           alike = close a k G.is_item G.is_item (R.is_item_bound_in b) (T.is_named (e.own).name) (T.is_named (e.own).name) (closes_item (R.is_item_bound_in b) (T.is_named (e.own).name) same (item_bound_covers b)) y;
           mode = refl;
@@ -236,7 +239,7 @@ module _ {b : P.Builder} {c : B.Builder} (a : Alike b c) (k : P.is_flow b.mode �
         let e = earlier-none G.is_item (R.is_item_bound_in b) (T.is_any (codes "li")) bounded (frames_of b.stack)
         (same_all G.is_item (T.is_any (codes "li")) (λ own. (facts own.name).item) (frames_of b.stack)) same_bounds (ap (P.within G.is_item (R.is_item_bound_in b)) (sym (names_are b.stack)) ∙ n) in
         subst (λ (r : P.Builder). Goes b r (D.item_closed_at (looked (T.is_any (codes "li"))) c)) (sym (cond-false _ _ _ n))
-        (subst (λ o. Goes b b (D.item_closed_at o c)) (sym (looked_is (T.is_any (codes "li")) ∙ e)) (stays a)))
+        (subst (Goes b b) (sym (closed_item-bare (looked (T.is_any (codes "li"))) c ∙ ap (λ o. D.item_closed_at o c) (looked_is (T.is_any (codes "li")) ∙ e))) (stays a)))
   ]
     where
       or_none : (v : Bool) → (v || false) ≡ v
@@ -254,7 +257,7 @@ module _ {b : P.Builder} {c : B.Builder} (a : Alike b c) (k : P.is_flow b.mode �
         let passes : G.is_description m ≡ true = ap G.is_description (sym is) ∙ e.passes in
         let w : P.within (bytes_eq m) (R.is_item_bound_in b) (P.names b.stack) ≡ true = within_found G.is_description (R.is_item_bound_in b) (P.names b.stack) y in
         subst (λ (r : P.Builder). Goes b r (D.item_closed_at (looked (T.is_any (codes "dd dt"))) c)) (sym (cond-true _ _ _ y))
-        (subst (λ o. Goes b (P.with_stack b (P.closed_through (bytes_eq m) (bytes_eq m) b.stack)) (D.item_closed_at o c)) (sym (looked_is (T.is_any (codes "dd dt")) ∙ e.is))
+        (subst (Goes b (P.with_stack b (P.closed_through (bytes_eq m) (bytes_eq m) b.stack))) (sym (closed_item-bare (looked (T.is_any (codes "dd dt"))) c ∙ ap (λ o. D.item_closed_at o c) (looked_is (T.is_any (codes "dd dt")) ∙ e.is)))
         (subst (λ n. Goes b (P.with_stack b (P.closed_through (bytes_eq m) (bytes_eq m) b.stack)) (B.close_except_for (T.is_named n) (T.is_named n) c)) (sym is)
         (record {
           alike = close a k (bytes_eq m) (bytes_eq m) (R.is_item_bound_in b) (T.is_named m) (T.is_named m)
@@ -265,7 +268,7 @@ module _ {b : P.Builder} {c : B.Builder} (a : Alike b c) (k : P.is_flow b.mode �
         let e = earlier-none G.is_description (R.is_item_bound_in b) (T.is_any (codes "dd dt")) bounded (frames_of b.stack)
         (same_all G.is_description (T.is_any (codes "dd dt")) (λ own. (facts own.name).description) (frames_of b.stack)) same_bounds (ap (P.within G.is_description (R.is_item_bound_in b)) (sym (names_are b.stack)) ∙ n) in
         subst (λ (r : P.Builder). Goes b r (D.item_closed_at (looked (T.is_any (codes "dd dt"))) c)) (sym (cond-false _ _ _ n))
-        (subst (λ o. Goes b b (D.item_closed_at o c)) (sym (looked_is (T.is_any (codes "dd dt")) ∙ e)) (stays a)))
+        (subst (Goes b b) (sym (closed_item-bare (looked (T.is_any (codes "dd dt"))) c ∙ ap (λ o. D.item_closed_at o c) (looked_is (T.is_any (codes "dd dt")) ∙ e))) (stays a)))
   ]
     where
       description_apart : (g : G.Group) → G.is_description_group g ≡ true → is_cell_or_caption g ≡ false

@@ -6,6 +6,7 @@ use Rattle.tl_tree_spec.specs.Groups as G
 use Rattle.tl_dom_spec.specs.Tags.{bare_tag}
 use Rattle.tl_dom_spec.specs.Builder as B
 use Rattle.tl_dom_spec.proofs.PartPaths.{IsStack, frames_of, name_of, path_of, tag_of}
+use Rattle.tl_dom_spec.proofs.PartSources.{bare_entries, bare_path}
 
 abbrev pub mode_is : P.Mode → B.Mode
 mode_is P.in_body = B.in_body
@@ -79,10 +80,10 @@ pub record Sound (b : P.Builder) : Type 0 where
   pub numbers : AreNumbered b.next b.active (frames_of b.stack)
   pub mode : b.mode ≡ P.mode_of (P.names b.stack)
 
--- what the whole builder holds besides is no matter
+-- what the whole builder holds besides is no matter, nor are the numbers of start tags
 pub record Like (b : P.Builder) (c : B.Builder) : Type 0 where
-  pub path : c.path ≡ path_of (frames_of b.stack)
-  pub active : c.active ≡ map entry_of b.active
+  pub path : bare_path c.path ≡ path_of (frames_of b.stack)
+  pub active : bare_entries c.active ≡ map entry_of b.active
   pub next : c.next ≡ suc b.next
   pub mode : c.mode ≡ mode_is b.mode
   pub skips : c.skips ≡ b.skips

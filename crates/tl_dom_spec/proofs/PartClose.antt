@@ -16,6 +16,7 @@ use Rattle.tl_dom_spec.proofs.PartPaths.{AreSame, IsStack, frames_of, has_within
 use Rattle.tl_dom_spec.proofs.PartBuilders.{Alike, Like, is_cell_or_caption}
 use Rattle.tl_dom_spec.proofs.PartOps.{implied, popped_until}
 use Rattle.tl_dom_spec.proofs.PartSound.{Popped, flow_top, group_of, implied_sound, implied_within, popped_sound, through_sound}
+use Rattle.tl_dom_spec.proofs.PartSources.{has_within-bare, seen}
 
 -- what bounds a scope
 
@@ -67,7 +68,7 @@ pub record Closes (but test bounds : List ℕ → Bool) (excepted tested : Tag �
 pub close : {b : P.Builder} {c : B.Builder} (a : Alike b c) → P.is_flow b.mode ≡ true →
     (but test bounds : List ℕ → Bool) (excepted tested : Tag → Bool) → Closes but test bounds excepted tested →
     P.within test bounds (P.names b.stack) ≡ true →
-    Alike (P.with_stack b (P.closed_through but test b.stack)) (B.close_except_for excepted tested c)
+    Alike (P.with_stack b (P.closed_through but test b.stack)) (B.close_except_for (seen excepted) (seen tested) c)
 close {b = b} {c = c} a k but test bounds excepted tested o w =
     let h = a.sound in
     let elements : P.within (P.has_name test) (P.has_name bounds) (P.elements b.stack) ≡ true = within_elements test bounds (P.elements b.stack) ∙ w in
@@ -75,7 +76,7 @@ close {b = b} {c = c} a k but test bounds excepted tested o w =
     let i : Popped (P.names b.stack) b.next b.active s = implied_sound b.next b.active but b.stack.current b.stack.others h.stack h.stand h.numbers (flow_top b h k) in
     let there = implied_within b.next b.active but (P.has_name test) (P.has_name bounds) (λ e. o.kept e.own.name) b.stack.current b.stack.others elements in
     let t = through_sound b.next b.active (P.has_name test) bounds o.cover (λ f z g. o.other (name_of f) z) (λ f e g. ap test e ∙ o.last) s.current s.others i.stack i.stand i.numbers i.top there in
-    let closing : Like (P.with_stack b s) (B.generate_implied_end_tags_except_for excepted c) = implied a.like but excepted o.excepts h.stack in
+    let closing : Like (P.with_stack b s) (B.generate_implied_end_tags_except_for (seen excepted) c) = implied a.like but excepted o.excepts h.stack in
     record {
       sound = popped_sound b (P.closed_through but test b.stack) h
           (record { stack = (t.1).stack; stand = (t.1).stand; numbers = (t.1).numbers; mode = (t.1).mode ∙ i.mode; top = (t.1).top });
@@ -86,13 +87,13 @@ close {b = b} {c = c} a k but test bounds excepted tested o w =
 pub close_in : {b : P.Builder} {c : B.Builder} (a : Alike b c) → P.is_flow b.mode ≡ true →
     (but test bounds : List ℕ → Bool) (excepted tested bounded : Tag → Bool) → Closes but test bounds excepted tested →
     AreSame bounds bounded (frames_of b.stack) →
-    Alike (R.closed_in bounds but test b) (if W.has_within tested bounded c.path then B.close_except_for excepted tested c else c)
+    Alike (R.closed_in bounds but test b) (if W.has_within (seen tested) (seen bounded) c.path then B.close_except_for (seen excepted) (seen tested) c else c)
 close_in {b = b} {c = c} a k but test bounds excepted tested bounded o same =
-    let e : W.has_within tested bounded c.path ≡ P.within test bounds (P.names b.stack) =
-    ap (W.has_within tested bounded) (a.like).path ∙ has_within test bounds tested bounded b.stack (same_all test tested o.tests (frames_of b.stack)) same in
+    let e : W.has_within (seen tested) (seen bounded) c.path ≡ P.within test bounds (P.names b.stack) =
+    has_within-bare tested bounded c.path ∙ ap (W.has_within tested bounded) (a.like).path ∙ has_within test bounds tested bounded b.stack (same_all test tested o.tests (frames_of b.stack)) same in
     elim (cases_Bool (P.within test bounds (P.names b.stack))) [
-      | inl y ↦ subst (λ (r : P.Builder). Alike r (if W.has_within tested bounded c.path then B.close_except_for excepted tested c else c)) (sym (cond-true _ _ _ y))
+      | inl y ↦ subst (λ (r : P.Builder). Alike r (if W.has_within (seen tested) (seen bounded) c.path then B.close_except_for (seen excepted) (seen tested) c else c)) (sym (cond-true _ _ _ y))
           (subst (Alike (P.with_stack b (P.closed_through but test b.stack))) (sym (cond-true _ _ _ (e ∙ y))) (close a k but test bounds excepted tested o y))
-      | inr n ↦ subst (λ (r : P.Builder). Alike r (if W.has_within tested bounded c.path then B.close_except_for excepted tested c else c)) (sym (cond-false _ _ _ n))
+      | inr n ↦ subst (λ (r : P.Builder). Alike r (if W.has_within (seen tested) (seen bounded) c.path then B.close_except_for (seen excepted) (seen tested) c else c)) (sym (cond-false _ _ _ n))
           (subst (Alike b) (sym (cond-false _ _ _ (e ∙ n))) a)
     ]

@@ -1,5 +1,5 @@
 -- The stack of the partial builder of `tl_tree_spec` as a path of the whole one, and what is asked of it and popped from it.
-use Rattle.std.proofs.Common.{◌≡◌, ℕ, suc, Bool, true, false, not, ◌||◌, ◌&&◌, ◌==◌, List, [], ◌∷◌, map, codes, refl, ap, ap₂, sym, ◌∙◌, inl, inr, true≢false}
+use Rattle.std.proofs.Common.{◌≡◌, ℕ, suc, Bool, true, false, not, ◌||◌, ◌&&◌, ◌==◌, List, [], ◌∷◌, map, Option, codes, refl, ap, ap₂, sym, ◌∙◌, inl, inr, true≢false}
 use Rattle.std.specs.Prelude.{⊤}
 use Rattle.std.specs.List.{list_any}
 use Rattle.std.proofs.lemmas.Bool.{and_left, cases_Bool, cond-false, cond-true, eq-eqb, eqb-true, false_from_ne_true}
@@ -17,6 +17,10 @@ use Rattle.tl_dom_spec.proofs.PartNames.{facts, has_twin}
 
 abbrev pub tag_of : HtmlTag → Tag
 tag_of own = html_tag own.name own.attributes
+
+-- with the number of its start tag
+abbrev pub tag_with : Option ℕ → HtmlTag → Tag
+tag_with source own = record (tag_of own) { source = source }
 
 abbrev pub nodes_of : P.Nodes → W.Nodes
 nodes_of P.no_nodes = W.no_nodes

@@ -1,5 +1,5 @@
 -- The rules of "in body" for tags, side by side.
-use Rattle.std.proofs.Common.{◌≡◌, ◌⊎◌, ℕ, suc, Bool, true, false, not, ◌||◌, ◌&&◌, List, [], ◌∷◌, map, Option, Some, None, codes, refl, ap, ap₂, sym, ◌∙◌, subst, inl, inr, true≢false, if◌then◌else◌}
+use Rattle.std.proofs.Common.{Bool, List, None, Option, Some, [], ap, ap₂, codes, false, if◌then◌else◌, inl, inr, map, not, refl, subst, suc, sym, true, true≢false, ℕ, ◌&&◌, ◌||◌, ◌∙◌, ◌∷◌, ◌≡◌, ◌⊎◌}
 use Rattle.std.specs.Prelude.{option_map}
 use Rattle.std.specs.Str.{bytes_eq}
 use Rattle.std.proofs.lemmas.Bool.{cases_Bool, cond-false, cond-true, false_from_ne_true, or_parts}
@@ -17,7 +17,7 @@ use Rattle.tl_dom_spec.specs.Formatting as F
 use Rattle.tl_dom_spec.specs.Adoption as A
 use Rattle.tl_dom_spec.specs.Body as D
 use Rattle.tl_dom_spec.proofs.PartNames.{facts, has_twin, is_break_group, is_button_group, is_elsewhere, is_misplaced, is_option_group, twin}
-use Rattle.tl_dom_spec.proofs.PartPaths.{AreSame, IsStack, frames_of, has_within, is_open_number, name_of, path_of, same_all, tag_of}
+use Rattle.tl_dom_spec.proofs.PartPaths.{AreSame, IsStack, frames_of, has_within, is_open_number, name_of, path_of, same_all, tag_of, tag_with}
 use Rattle.tl_dom_spec.proofs.PartActive.{listed_as, listed_is, marker_listed, nothing_unlisted, without_last_marker_is}
 use Rattle.tl_dom_spec.proofs.PartBuilders.{Alike, Like, Sound, entry_of, is_cell_or_caption, is_formatting_group, stands_in}
 use Rattle.tl_dom_spec.proofs.PartOps.{counting, frameset_not_ok, implied, in_mode, inserted, skipping, with_active, with_path}
@@ -26,6 +26,7 @@ use Rattle.tl_dom_spec.proofs.PartClose.{button_scope_same, close, close_in, lis
 use Rattle.tl_dom_spec.proofs.PartTests.{closes_block, closes_heading, closes_item, closes_named, closes_p, each_name, list_scope_covers, not_html, same_name, scope_covers, turned}
 use Rattle.tl_dom_spec.proofs.PartBody.{Goes, after, closed_mode, description_closed, flows, heading_closed, item_closed, lets, names_are, p_closed, put, put_alone, put_formatting, rebuilt, special_same, stays}
 use Rattle.tl_dom_spec.proofs.PartAdoption.{adoption, any_other, found_entry}
+use Rattle.tl_dom_spec.proofs.PartSources.{bare_entries, bare_listed, bare_path, found-bare, has_within-bare, is_open_number-bare, listed-bare, nothing-bare, open-bare, seen, unlisted-bare, without_last_marker-bare}
 
 abbrev is_in_body : P.Mode → Bool
 is_in_body P.in_body = true
@@ -67,15 +68,16 @@ module _ {b : P.Builder} {c : B.Builder} (a : Alike b c) (k : P.is_flow b.mode �
       no_button e = true≢false (ap is_button_group e)
 
   -- in a ruby
-  ruby_closed : (but : List ℕ → Bool) (excepted : Tag → Bool) → ((own : HtmlTag) → but own.name ≡ excepted (tag_of own)) → Goes b (R.ruby_closed but b) (D.ruby_closed excepted c)
+  ruby_closed : (but : List ℕ → Bool) (excepted : Tag → Bool) → ((own : HtmlTag) → but own.name ≡ excepted (tag_of own)) → Goes b (R.ruby_closed but b) (D.ruby_closed (seen excepted) c)
   ruby_closed but excepted same =
       let e : B.has_in_scope (T.is_any (codes "ruby")) c ≡ P.within (H.is_one_of (codes "ruby")) H.is_scope (P.names b.stack) =
-      ap (W.has_within (T.is_any (codes "ruby")) T.is_scope) (a.like).path
+      has_within-bare (T.is_any (codes "ruby")) T.is_scope c.path
+      ∙ ap (W.has_within (T.is_any (codes "ruby")) T.is_scope) (a.like).path
       ∙ has_within (H.is_one_of (codes "ruby")) H.is_scope (T.is_any (codes "ruby")) T.is_scope b.stack
       (same_all (H.is_one_of (codes "ruby")) (T.is_any (codes "ruby")) (λ own. refl) (frames_of b.stack)) (scope_same b.stack.current b.stack.others (a.sound).stack) in
       let h = a.sound in
       let s : P.Stack = P.implied_closed but b.stack.current b.stack.others in
-      let closed : Goes b (P.with_stack b s) (B.generate_implied_end_tags_except_for excepted c) = record {
+      let closed : Goes b (P.with_stack b s) (B.generate_implied_end_tags_except_for (seen excepted) c) = record {
         alike = record {
           sound = popped_sound b s h (implied_sound b.next b.active but b.stack.current b.stack.others h.stack h.stand h.numbers (flow_top b h k));
           like = implied a.like but excepted same h.stack;
@@ -83,14 +85,15 @@ module _ {b : P.Builder} {c : B.Builder} (a : Alike b c) (k : P.is_flow b.mode �
         mode = refl;
       } in
       elim (cases_Bool (P.within (H.is_one_of (codes "ruby")) H.is_scope (P.names b.stack))) [
-        | inl y ↦ subst (λ (r : P.Builder). Goes b r (D.ruby_closed excepted c)) (sym (cond-true _ _ _ y)) (subst (Goes b (P.with_stack b s)) (sym (cond-true _ _ _ (e ∙ y))) closed)
-        | inr n ↦ subst (λ (r : P.Builder). Goes b r (D.ruby_closed excepted c)) (sym (cond-false _ _ _ n)) (subst (Goes b b) (sym (cond-false _ _ _ (e ∙ n))) (stays a))
+        | inl y ↦ subst (λ (r : P.Builder). Goes b r (D.ruby_closed (seen excepted) c)) (sym (cond-true _ _ _ y)) (subst (Goes b (P.with_stack b s)) (sym (cond-true _ _ _ (e ∙ y))) closed)
+        | inr n ↦ subst (λ (r : P.Builder). Goes b r (D.ruby_closed (seen excepted) c)) (sym (cond-false _ _ _ n)) (subst (Goes b b) (sym (cond-false _ _ _ (e ∙ n))) (stays a))
       ]
 
   -- no `select` is open
   no_select : B.has_in_scope T.is_select c ≡ false
   no_select =
-      ap (W.has_within T.is_select T.is_scope) (a.like).path
+      has_within-bare T.is_select T.is_scope c.path
+      ∙ ap (W.has_within T.is_select T.is_scope) (a.like).path
       ∙ has_within (H.is_one_of (codes "select")) H.is_scope T.is_select T.is_scope b.stack
       (same_all (H.is_one_of (codes "select")) T.is_select (λ own. refl) (frames_of b.stack)) (scope_same b.stack.current b.stack.others (a.sound).stack)
       ∙ ap (P.within (H.is_one_of (codes "select")) H.is_scope) (names_are b.stack)
@@ -127,7 +130,7 @@ module _ {b : P.Builder} {c : B.Builder} (a : Alike b c) (k : P.is_flow b.mode �
     alike = record {
       sound = active_sound b (P.without_last_marker b.active) a.sound (marker_listed b.next b.active (a.sound).entries)
           (numbers_by b.next b.active (P.without_last_marker b.active) (frames_of b.stack) (λ f. agrees_marker f b.active) (a.sound).numbers);
-      like = with_active a.like (P.without_last_marker b.active) (B.without_last_marker c.active) (ap B.without_last_marker (a.like).active ∙ without_last_marker_is b.active);
+      like = with_active a.like (P.without_last_marker b.active) (B.without_last_marker c.active) (without_last_marker-bare c.active ∙ ap B.without_last_marker (a.like).active ∙ without_last_marker_is b.active);
     };
     mode = refl;
   }
@@ -138,7 +141,7 @@ module _ {b : P.Builder} {c : B.Builder} (a : Alike b c) (k : P.is_flow b.mode �
     where
       from : (o : Option P.Element) → P.listed n b.active ≡ o → R.anchor_ended b n o ≡ Some r → Goes b r (D.anchor_ended (F.listed n c.active) c)
       from None e h =
-          subst (λ o. Goes b r (D.anchor_ended o c)) (sym (ap (F.listed n) (a.like).active ∙ listed_is n b.active ∙ ap (option_map listed_as) e))
+          subst (λ o. Goes b r (D.anchor_ended o c)) (sym (nothing-bare bare_listed (F.listed n c.active) (listed-bare n c.active ∙ ap (F.listed n) (a.like).active ∙ listed_is n b.active ∙ ap (option_map listed_as) e)))
           (subst (λ (q : P.Builder). Goes b q c) (some_is h) (stays a))
       from (Some x) e h = ended (R.adoption b n) refl h
         where
@@ -153,20 +156,21 @@ module _ {b : P.Builder} {c : B.Builder} (a : Alike b c) (k : P.is_flow b.mode �
                 let g₁ = adoption a k n g b₁ u in
                 let l = (g₁.alike).like in
                 let q : B.Builder = A.adoption_agency n c in
-                let not_open : W.is_open_number (suc x.number) q.path ≡ false = ap (W.is_open_number (suc x.number)) l.path ∙ is_open_number x.number b₁.stack ∙ two.1 in
-                let active : F.unlisted (suc x.number) q.active ≡ map entry_of b₁.active = ap (F.unlisted (suc x.number)) l.active ∙ nothing_unlisted x.number b₁.active two.0 in
-                let path : (if W.is_open_number (suc x.number) q.path then W.taken_out (suc x.number) q.path else q.path) ≡ path_of (frames_of b₁.stack) = cond-false _ _ _ not_open ∙ l.path in
+                let not_open : W.is_open_number (suc x.number) q.path ≡ false = is_open_number-bare (suc x.number) q.path ∙ ap (W.is_open_number (suc x.number)) l.path ∙ is_open_number x.number b₁.stack ∙ two.1 in
+                let active : bare_entries (F.unlisted (suc x.number) q.active) ≡ map entry_of b₁.active = unlisted-bare (suc x.number) q.active ∙ ap (F.unlisted (suc x.number)) l.active ∙ nothing_unlisted x.number b₁.active two.0 in
+                let path : bare_path (if W.is_open_number (suc x.number) q.path then W.taken_out (suc x.number) q.path else q.path) ≡ path_of (frames_of b₁.stack) = ap bare_path (cond-false _ _ _ not_open) ∙ l.path in
+                let found = found-bare (F.listed n c.active) (suc x.number) (tag_of x.own) (listed-bare n c.active ∙ ap (F.listed n) (a.like).active ∙ listed_is n b.active ∙ ap (option_map listed_as) e) in
                 let gone : Goes b b₁ (record q {
                   active = F.unlisted (suc x.number) q.active;
                   path = if W.is_open_number (suc x.number) q.path then W.taken_out (suc x.number) q.path else q.path;
                 }) = lets g₁ (with_path (with_active l b₁.active (F.unlisted (suc x.number) q.active) active) b₁.stack
                 (if W.is_open_number (suc x.number) q.path then W.taken_out (suc x.number) q.path else q.path) path) in
                 subst (λ (z : P.Builder). Goes b z (D.anchor_ended (F.listed n c.active) c)) is
-                (subst (λ o. Goes b b₁ (D.anchor_ended o c)) (sym (ap (F.listed n) (a.like).active ∙ listed_is n b.active ∙ ap (option_map listed_as) e))
+                (subst (λ o. Goes b b₁ (D.anchor_ended o c)) (sym found.is)
                 (subst (λ m. Goes b b₁ (record (A.adoption_agency m c) {
                   active = F.unlisted (suc x.number) (A.adoption_agency m c).active;
                   path = if W.is_open_number (suc x.number) (A.adoption_agency m c).path then W.taken_out (suc x.number) (A.adoption_agency m c).path else (A.adoption_agency m c).path;
-                })) entry.name gone)))
+                })) (entry.name ∙ sym (ap (λ (t : Tag). t.name) found.same)) gone)))
           ]
 
 -- start tags
@@ -177,9 +181,9 @@ plain_is g m h e = ap is_plain e ∙ h
 twin_is : (m : List ℕ) (g : G.Group) → G.group m ≡ g → has_twin g ≡ true → K.group m ≡ twin g
 twin_is m g e h = (facts m).twins (ap has_twin e ∙ h) ∙ ap twin e
 
-module _ {b : P.Builder} {c : B.Builder} (a : Alike b c) (k : P.is_flow b.mode ≡ true) (own : HtmlTag) (closes : Bool) (r : P.Builder) where
+module _ {b : P.Builder} {c : B.Builder} (a : Alike b c) (k : P.is_flow b.mode ≡ true) (own : HtmlTag) (source : Option ℕ) (closes : Bool) (r : P.Builder) where
   abbrev tag : Tag
-  tag = tag_of own
+  tag = tag_with source own
 
   abbrev Ends : G.Group → Type 0
   Ends g = Finishes r (D.body_start c (twin g) tag closes)
@@ -201,8 +205,8 @@ module _ {b : P.Builder} {c : B.Builder} (a : Alike b c) (k : P.is_flow b.mode �
   with_formatting = rebuilt a k
 
   -- a break, and other void elements
-  void : (other : HtmlTag) → Goes b (P.alone (P.reconstructed b) other) (D.void_start c (tag_of other))
-  void other = calm (after with_formatting (put_alone with_formatting.alike (ready with_formatting) other))
+  void : (other : HtmlTag) → Goes b (P.alone (P.reconstructed b) other) (D.void_start c (tag_with source other))
+  void other = calm (after with_formatting (put_alone with_formatting.alike (ready with_formatting) other source))
 
   abbrev nobr_in : B.Builder → Bool → B.Builder
   nobr_in d v = if v then F.reconstruct_formatting (A.adoption_agency own.name d) else d
@@ -213,7 +217,8 @@ module _ {b : P.Builder} {c : B.Builder} (a : Alike b c) (k : P.is_flow b.mode �
       let d = F.reconstruct_formatting c in
       let a₁ = with_formatting.alike in
       let e : B.has_in_scope (T.is_named own.name) d ≡ P.within (bytes_eq own.name) H.is_scope (P.names p.stack) =
-      ap (W.has_within (T.is_named own.name) T.is_scope) (a₁.like).path
+      has_within-bare (T.is_named own.name) T.is_scope d.path
+      ∙ ap (W.has_within (T.is_named own.name) T.is_scope) (a₁.like).path
       ∙ has_within (bytes_eq own.name) H.is_scope (T.is_named own.name) T.is_scope p.stack
       (same_all (bytes_eq own.name) (T.is_named own.name) (λ own. refl) (frames_of p.stack)) (scope_same p.stack.current p.stack.others (a₁.sound).stack) in
       elim (cases_Bool (P.within (bytes_eq own.name) H.is_scope (P.names p.stack))) [
@@ -223,7 +228,7 @@ module _ {b : P.Builder} {c : B.Builder} (a : Alike b c) (k : P.is_flow b.mode �
         | inr n ↦ (
             let w : Some (P.formatted p own) ≡ Some r = sym (cond-false _ _ _ n) ∙ h in
             subst (λ v. Finishes r (B.Done (F.insert_formatting_element tag (nobr_in d v)))) (sym (e ∙ n))
-            (done w (after with_formatting (put_formatting a₁ (ready with_formatting) own g)) _ refl))
+            (done w (after with_formatting (put_formatting a₁ (ready with_formatting) own source g)) _ refl))
       ]
     where
       ended : (o : Option P.Builder) → R.adoption (P.reconstructed b) own.name ≡ o → option_map (λ (q : P.Builder). P.formatted (P.reconstructed q) own) o ≡ Some r →
@@ -232,17 +237,17 @@ module _ {b : P.Builder} {c : B.Builder} (a : Alike b c) (k : P.is_flow b.mode �
       ended (Some q) u w =
           let g₁ = after with_formatting (adoption with_formatting.alike (ready with_formatting) own.name g q u) in
           let g₂ = after g₁ (rebuilt g₁.alike (ready g₁)) in
-          done w (after g₂ (put_formatting g₂.alike (ready g₂) own g)) _ refl
+          done w (after g₂ (put_formatting g₂.alike (ready g₂) own source g)) _ refl
 
   start_of : (g : G.Group) → G.group own.name ≡ g → has_twin g ≡ true → R.body_start b g own ≡ Some r → Ends g
-  start_of G.a_paragraph e t h = done h (after with_p_closed (put with_p_closed.alike (ready with_p_closed) own (plain_is _ own.name refl e))) _ refl
-  start_of G.a_block e t h = done h (after with_p_closed (put with_p_closed.alike (ready with_p_closed) own (plain_is _ own.name refl e))) _ refl
+  start_of G.a_paragraph e t h = done h (after with_p_closed (put with_p_closed.alike (ready with_p_closed) own source (plain_is _ own.name refl e))) _ refl
+  start_of G.a_block e t h = done h (after with_p_closed (put with_p_closed.alike (ready with_p_closed) own source (plain_is _ own.name refl e))) _ refl
   start_of G.a_heading e t h =
       let g₁ = heading_closed with_p_closed.alike (ready with_p_closed) in
       let g₂ = after with_p_closed g₁ in
-      done h (after g₂ (put g₁.alike (ready g₂) own (plain_is _ own.name refl e))) _ refl
+      done h (after g₂ (put g₁.alike (ready g₂) own source (plain_is _ own.name refl e))) _ refl
   start_of G.a_preformatted e t h =
-      let g = calm (after with_p_closed (put with_p_closed.alike (ready with_p_closed) own (plain_is _ own.name refl e))) in
+      let g = calm (after with_p_closed (put with_p_closed.alike (ready with_p_closed) own source (plain_is _ own.name refl e))) in
       done h (skips_after g) _ refl
     where
       skips_after : {q : P.Builder} {d : B.Builder} → Goes b q d → Goes b (record q { skips = true }) (record d { skips = true })
@@ -257,16 +262,16 @@ module _ {b : P.Builder} {c : B.Builder} (a : Alike b c) (k : P.is_flow b.mode �
       let g₀ = calm (stays a) in
       let g₁ = after g₀ (item_closed g₀.alike (ready g₀)) in
       let g₂ = after g₁ (p_closed g₁.alike (ready g₁)) in
-      done h (after g₂ (put g₂.alike (ready g₂) own (plain_is _ own.name refl e))) _ refl
+      done h (after g₂ (put g₂.alike (ready g₂) own source (plain_is _ own.name refl e))) _ refl
   start_of G.a_description e t h =
       let g₀ = calm (stays a) in
       let g₁ = after g₀ (description_closed g₀.alike (ready g₀)) in
       let g₂ = after g₁ (p_closed g₁.alike (ready g₁)) in
-      done h (after g₂ (put g₂.alike (ready g₂) own (plain_is _ own.name refl e))) _ refl
+      done h (after g₂ (put g₂.alike (ready g₂) own source (plain_is _ own.name refl e))) _ refl
   start_of G.a_button e t h =
       let g₁ = button_closed a k own.name e in
       let g₂ = after g₁ (rebuilt g₁.alike (ready g₁)) in
-      done h (calm (after g₂ (put g₂.alike (ready g₂) own (plain_is _ own.name refl e)))) _ refl
+      done h (calm (after g₂ (put g₂.alike (ready g₂) own source (plain_is _ own.name refl e)))) _ refl
   start_of G.an_anchor e t h = from (R.anchor_ended b own.name (P.listed own.name b.active)) refl h
     where
       from : (o : Option P.Builder) → R.anchor_ended b own.name (P.listed own.name b.active) ≡ o →
@@ -275,25 +280,25 @@ module _ {b : P.Builder} {c : B.Builder} (a : Alike b c) (k : P.is_flow b.mode �
       from (Some q) u w =
           let g₁ = anchor_gone a k own.name (ap is_formatting_group e) q u in
           let g₂ = after g₁ (rebuilt g₁.alike (ready g₁)) in
-          done w (after g₂ (put_formatting g₂.alike (ready g₂) own (ap is_formatting_group e))) _ refl
-  start_of G.a_format e t h = done h (after with_formatting (put_formatting with_formatting.alike (ready with_formatting) own (ap is_formatting_group e))) _ refl
+          done w (after g₂ (put_formatting g₂.alike (ready g₂) own source (ap is_formatting_group e))) _ refl
+  start_of G.a_format e t h = done h (after with_formatting (put_formatting with_formatting.alike (ready with_formatting) own source (ap is_formatting_group e))) _ refl
   start_of G.a_nobr e t h = nobr (ap is_formatting_group e) h
   start_of G.a_mark e t h =
-      let g₁ = after with_formatting (put with_formatting.alike (ready with_formatting) own (plain_is _ own.name refl e)) in
+      let g₁ = after with_formatting (put with_formatting.alike (ready with_formatting) own source (plain_is _ own.name refl e)) in
       done h (calm (after g₁ (marked g₁.alike (ready g₁)))) _ refl
   start_of G.a_break e t h = done h (void own) _ refl
   start_of G.a_void e t h = done h (void own) _ refl
   start_of G.an_image e t h = done h (void (record own { name = codes "img" })) _ refl
-  start_of G.a_detail e t h = done h (put_alone a k own) _ refl
+  start_of G.a_detail e t h = done h (put_alone a k own source) _ refl
   start_of G.a_rule e t h =
-      done h (calm (after with_p_closed (put_alone with_p_closed.alike (ready with_p_closed) own))) _
+      done h (calm (after with_p_closed (put_alone with_p_closed.alike (ready with_p_closed) own source))) _
       (ap (λ v. B.Done (B.frameset_not_ok (B.insert_and_pop tag (if v then B.generate_implied_end_tags (D.close_p c) else D.close_p c)))) (no_select with_p_closed.alike (ready with_p_closed)))
   start_of G.a_ruby_base e t h =
       let g₁ = ruby_closed a k P.no_name T.no_tag (λ own. refl) in
-      done h (after g₁ (put g₁.alike (ready g₁) own (plain_is _ own.name refl e))) _ refl
+      done h (after g₁ (put g₁.alike (ready g₁) own source (plain_is _ own.name refl e))) _ refl
   start_of G.a_ruby_text e t h =
       let g₁ = ruby_closed a k R.is_rtc (T.is_any (codes "rtc")) (λ own. refl) in
-      done h (after g₁ (put g₁.alike (ready g₁) own (plain_is _ own.name refl e))) _ refl
+      done h (after g₁ (put g₁.alike (ready g₁) own source (plain_is _ own.name refl e))) _ refl
   start_of G.a_table e t h =
       let g₁ = with_p_closed in
       let q = R.p_closed b in
@@ -302,7 +307,7 @@ module _ {b : P.Builder} {c : B.Builder} (a : Alike b c) (k : P.is_flow b.mode �
       let sound : Sound (record (P.inserted q own) { mode = P.in_table }) =
       pushed_sound q own P.in_table (g₁.alike).sound (ap has_twin e) (ap (λ g. stands_in g (group_of q.stack.current)) e ∙ top) (sym (ap (λ g. P.mode_by g q.mode) e)) in
       let like : Like (record (P.inserted q own) { mode = P.in_table }) (record (B.frameset_not_ok (B.insert_element tag d)) { mode = B.in_table }) =
-      in_mode (frameset_not_ok (inserted (g₁.alike).like own)) P.in_table in (
+      in_mode (frameset_not_ok (inserted (g₁.alike).like own source)) P.in_table in (
         record (B.frameset_not_ok (B.insert_element tag d)) { mode = B.in_table },
         ap (λ v. B.Done (B.switch_to B.in_table (B.frameset_not_ok (B.insert_element tag (if v then c else D.close_p c))))) (a.like).quirks,
         subst (λ (x : P.Builder). Alike x (record (B.frameset_not_ok (B.insert_element tag d)) { mode = B.in_table })) (some_is h) (record { sound = sound; like = like }),
@@ -313,24 +318,24 @@ module _ {b : P.Builder} {c : B.Builder} (a : Alike b c) (k : P.is_flow b.mode �
   start_of G.a_table_body e t h = done h (stays a) _ refl
   start_of G.a_row e t h = done h (stays a) _ refl
   start_of G.a_cell e t h = done h (stays a) _ refl
-  start_of G.any_other e t h = done h (after with_formatting (put with_formatting.alike (ready with_formatting) own (plain_is _ own.name refl e))) _ refl
+  start_of G.any_other e t h = done h (after with_formatting (put with_formatting.alike (ready with_formatting) own source (plain_is _ own.name refl e))) _ refl
   start_of G.misplaced e t h = absurd (true≢false (sym t))
   start_of G.an_option e t h = absurd (true≢false (sym t))
   start_of G.elsewhere e t h = absurd (true≢false (sym t))
 
 -- a start tag of any name
-pub start_in_body : (b : P.Builder) (c : B.Builder) → Alike b c → P.is_flow b.mode ≡ true → (own : HtmlTag) (closes : Bool) (r : P.Builder) →
-    R.body_start b (G.group own.name) own ≡ Some r → Finishes r (D.body_start c (K.group own.name) (tag_of own) closes)
-start_in_body b c a k own closes r h = elim (cases_Bool (has_twin (G.group own.name))) [
-  | inl y ↦ subst (λ g. Finishes r (D.body_start c g (tag_of own) closes)) (sym ((facts own.name).twins y)) (start_of a k own closes r (G.group own.name) refl y h)
+pub start_in_body : (b : P.Builder) (c : B.Builder) → Alike b c → P.is_flow b.mode ≡ true → (own : HtmlTag) (source : Option ℕ) (closes : Bool) (r : P.Builder) →
+    R.body_start b (G.group own.name) own ≡ Some r → Finishes r (D.body_start c (K.group own.name) (tag_with source own) closes)
+start_in_body b c a k own source closes r h = elim (cases_Bool (has_twin (G.group own.name))) [
+  | inl y ↦ subst (λ g. Finishes r (D.body_start c g (tag_with source own) closes)) (sym ((facts own.name).twins y)) (start_of a k own source closes r (G.group own.name) refl y h)
   | inr n ↦ without (G.group own.name) refl n h
 ]
   where
-    lost : (K.group own.name ≡ K.the_head) ⊎ (K.group own.name ≡ K.a_frame) → Some b ≡ Some r → Finishes r (D.body_start c (K.group own.name) (tag_of own) closes)
-    lost (inl e) w = subst (λ g. Finishes r (D.body_start c g (tag_of own) closes)) (sym e) (done w (stays a) _ refl)
-    lost (inr e) w = subst (λ g. Finishes r (D.body_start c g (tag_of own) closes)) (sym e) (done w (stays a) _ refl)
+    lost : (K.group own.name ≡ K.the_head) ⊎ (K.group own.name ≡ K.a_frame) → Some b ≡ Some r → Finishes r (D.body_start c (K.group own.name) (tag_with source own) closes)
+    lost (inl e) w = subst (λ g. Finishes r (D.body_start c g (tag_with source own) closes)) (sym e) (done w (stays a) _ refl)
+    lost (inr e) w = subst (λ g. Finishes r (D.body_start c g (tag_with source own) closes)) (sym e) (done w (stays a) _ refl)
 
-    without : (g : G.Group) → G.group own.name ≡ g → has_twin g ≡ false → R.body_start b g own ≡ Some r → Finishes r (D.body_start c (K.group own.name) (tag_of own) closes)
+    without : (g : G.Group) → G.group own.name ≡ g → has_twin g ≡ false → R.body_start b g own ≡ Some r → Finishes r (D.body_start c (K.group own.name) (tag_with source own) closes)
     without G.misplaced e n w = lost ((facts own.name).lost (ap is_misplaced e)) w
     without G.an_option e n w = absurd (no_some w)
     without G.elsewhere e n w = absurd (no_some w)
@@ -346,9 +351,9 @@ module _ {b : P.Builder} {c : B.Builder} (a : Alike b c) (k : P.is_flow b.mode �
   scope_in = scope_same b.stack.current b.stack.others (a.sound).stack
 
   in_scope : (test : List ℕ → Bool) (tested : Tag → Bool) → ((own : HtmlTag) → test own.name ≡ tested (tag_of own)) →
-      B.has_in_scope tested c ≡ P.within test H.is_scope (P.names b.stack)
+      B.has_in_scope (seen tested) c ≡ P.within test H.is_scope (P.names b.stack)
   in_scope test tested same =
-      ap (W.has_within tested T.is_scope) (a.like).path ∙ has_within test H.is_scope tested T.is_scope b.stack (same_all test tested same (frames_of b.stack)) scope_in
+      has_within-bare tested T.is_scope c.path ∙ ap (W.has_within tested T.is_scope) (a.like).path ∙ has_within test H.is_scope tested T.is_scope b.stack (same_all test tested same (frames_of b.stack)) scope_in
 
   block : (g : G.Group) → G.group m ≡ g → is_cell_or_caption g ≡ false → G.is_implied_group g ≡ false → is_elsewhere g ≡ false →
       Goes b (R.block_ended b m) (D.close_in_scope T.no_tag (T.is_named m) c)
@@ -391,7 +396,8 @@ module _ {b : P.Builder} {c : B.Builder} (a : Alike b c) (k : P.is_flow b.mode �
   paragraph e =
       let name : m ≡ codes "p" = each_name (λ n. n ≡ codes "p") m (H.words (codes "p")) (refl, tt) (sym (facts m).paragraph ∙ ap G.is_paragraph_group e) in
       let test : B.has_in_button_scope T.is_paragraph c ≡ P.within G.is_paragraph H.is_button_scope (P.names b.stack) =
-      ap (W.has_within T.is_paragraph T.is_button_scope) (a.like).path
+      has_within-bare T.is_paragraph T.is_button_scope c.path
+      ∙ ap (W.has_within T.is_paragraph T.is_button_scope) (a.like).path
       ∙ has_within G.is_paragraph H.is_button_scope T.is_paragraph T.is_button_scope b.stack
       (same_all G.is_paragraph T.is_paragraph (λ own. (facts own.name).paragraph) (frames_of b.stack)) (button_scope_same b.stack (a.sound).stack) in
       elim (cases_Bool (P.within G.is_paragraph H.is_button_scope (P.names b.stack))) [
@@ -405,7 +411,7 @@ module _ {b : P.Builder} {c : B.Builder} (a : Alike b c) (k : P.is_flow b.mode �
     where
       empty : Goes b (P.alone b (bare_own (codes "p"))) (ended_in false)
       empty =
-          let g₁ = put a k (bare_own (codes "p")) refl in
+          let g₁ = put a k (bare_own (codes "p")) None refl in
           let g₂ = lets g₁ (counting (g₁.alike).like _ _ _) in
           let closed : Alike (P.with_stack (P.inserted b (bare_own (codes "p"))) (P.closed_through G.is_paragraph G.is_paragraph (P.inserted b (bare_own (codes "p"))).stack)) (ended_in false) =
           close g₂.alike k G.is_paragraph G.is_paragraph H.is_button_scope T.is_paragraph T.is_paragraph closes_p refl in
@@ -427,7 +433,7 @@ module _ {b : P.Builder} {c : B.Builder} (a : Alike b c) (k : P.is_flow b.mode �
   line_break : Goes b (P.alone (P.reconstructed b) (record { name = m; attributes = [] })) (B.add_one (D.void_start c (tag_of (record { name = m; attributes = [] }))))
   line_break =
       let g₁ = rebuilt a k in
-      let g₂ = after g₁ (put_alone g₁.alike (flows g₁ k) (record { name = m; attributes = [] })) in
+      let g₂ = after g₁ (put_alone g₁.alike (flows g₁ k) (record { name = m; attributes = [] }) None) in
       let g₃ = lets g₂ (frameset_not_ok (g₂.alike).like) in
       lets g₃ (counting (g₃.alike).like _ _ _)
 
@@ -456,7 +462,8 @@ module _ {b : P.Builder} {c : B.Builder} (a : Alike b c) (k : P.is_flow b.mode �
   ignored part body =
       let off = none_open part (R.is_special_in b) (P.names b.stack) (sym (a.sound).mode ∙ body) in
       let test : W.within (W.has_tag (T.is_named m)) (W.has_tag (T.is_special c.flags.counts_search)) (W.elements c.path) ≡ P.within (bytes_eq m) (R.is_special_in b) (P.names b.stack) =
-      ap (λ (p : W.Path). W.within (W.has_tag (T.is_named m)) (W.has_tag (T.is_special c.flags.counts_search)) (W.elements p)) (a.like).path
+      open-bare (W.has_tag (T.is_named m)) (W.has_tag (T.is_special c.flags.counts_search)) (W.has_tag (T.is_named m)) (W.has_tag (T.is_special c.flags.counts_search)) (λ _. refl) (λ _. refl) c.path
+      ∙ ap (λ (p : W.Path). W.within (W.has_tag (T.is_named m)) (W.has_tag (T.is_special c.flags.counts_search)) (W.elements p)) (a.like).path
       ∙ has_within (bytes_eq m) (R.is_special_in b) (T.is_named m) (T.is_special c.flags.counts_search) b.stack
       (same_all (bytes_eq m) (T.is_named m) (λ own. refl) (frames_of b.stack)) (same_all (R.is_special_in b) (T.is_special c.flags.counts_search) (special_same a.like) (frames_of b.stack)) in
       subst (λ (q : P.Builder). Goes b q (A.any_other_end_tag m c)) (sym (cond-false _ _ _ off)) (subst (Goes b b) (sym (cond-false _ _ _ (test ∙ off))) (stays a))

@@ -1,5 +1,5 @@
 -- The rules of the modes of tables: where the partial builder calls the rules of the next mode, the whole one reprocesses the token in it.
-use Rattle.std.proofs.Common.{◌≡◌, ℕ, suc, zero, Bool, true, false, not, ◌||◌, ◌&&◌, ◌+◌, ◌⊎◌, List, [], ◌∷◌, Option, Some, None, codes, refl, ap, ap₂, sym, ◌∙◌, subst, inl, inr, true≢false, arith, if◌then◌else◌}
+use Rattle.std.proofs.Common.{Bool, List, None, Option, Some, [], ap, ap₂, arith, codes, false, if◌then◌else◌, inl, inr, not, refl, subst, suc, sym, true, true≢false, zero, ℕ, ◌&&◌, ◌+◌, ◌||◌, ◌∙◌, ◌∷◌, ◌≡◌, ◌⊎◌}
 use Rattle.std.specs.List.{list_all}
 use Rattle.std.specs.Str.{bytes_eq}
 use Rattle.std.proofs.lemmas.Bool.{and_parts, cases_Bool, cond-false, cond-true, false_from_ne_true}
@@ -19,13 +19,14 @@ use Rattle.tl_dom_spec.specs.Body as Body
 use Rattle.tl_dom_spec.specs.Tables as S
 use Rattle.tl_dom_spec.specs.Dispatcher as M
 use Rattle.tl_dom_spec.proofs.PartNames.{facts, has_twin, is_elsewhere, is_misplaced, is_option_group, twin}
-use Rattle.tl_dom_spec.proofs.PartPaths.{IsStack, frames_of, name_of, path_of, tag_of}
+use Rattle.tl_dom_spec.proofs.PartPaths.{IsStack, frames_of, name_of, path_of, tag_of, tag_with}
 use Rattle.tl_dom_spec.proofs.PartBuilders.{Alike, Like, Sound, mode_is, stands_in}
 use Rattle.tl_dom_spec.proofs.PartOps as O
 use Rattle.tl_dom_spec.proofs.PartSound.{alone_sound, group_of, names_in}
 use Rattle.tl_dom_spec.proofs.PartRules.{end_in_body, start_in_body}
 use Rattle.tl_dom_spec.proofs.PartTables as A
 use Rattle.tl_dom_spec.proofs.PartTables.{current_at, in_table_scope, mode_in}
+use Rattle.tl_dom_spec.proofs.PartSources.{html_content-bare, top-bare}
 
 -- A run of the whole builder
 
@@ -62,7 +63,8 @@ content_of token f false = html_content f.element.own token
 pub dispatched : {b : P.Builder} {c : B.Builder} → Like b c → (token : B.Token) → M.dispatch token c ≡ M.mode_step (mode_is b.mode) c token
 dispatched {b = b} {c = c} h token =
     cond-true _ _ _ (
-    ap₂ (λ x p. M.is_html_content (B.adjusted_tag x p) token) h.context h.path
+    html_content-bare c.context c.path token
+    ∙ ap₂ (λ x p. M.is_html_content (B.adjusted_tag x p) token) h.context h.path
     ∙ content_of token b.stack.current (B.is_only (W.elements (path_of (frames_of b.stack)))))
     ∙ ap (λ m. M.mode_step m c token) h.mode
 
@@ -125,38 +127,38 @@ module _ {b : P.Builder} {c : B.Builder} (h : Alike b c) where
   at_row m = A.cleared h G.is_row_context S.is_table_row_context row_context_same refl
       (ap (λ v. v || is_one_of (codes "html template") (name_of b.stack.current)) (current_at b h.sound P.in_row m))
 
-  body_opened : b.mode ≡ P.in_table → (own : HtmlTag) → G.group own.name ≡ G.a_table_body → Alike (R.body_opened b own) (S.body_opened c (tag_of own))
-  body_opened m own e =
+  body_opened : b.mode ≡ P.in_table → (own : HtmlTag) (source : Option ℕ) → G.group own.name ≡ G.a_table_body → Alike (R.body_opened b own) (S.body_opened c (tag_with source own))
+  body_opened m own source e =
       let k = at_table m in
-      A.opened k own G.a_table_body P.in_table_body e refl (current_at (R.cleared G.is_table_context b) k.sound P.in_table m) refl
+      A.opened k own source G.a_table_body P.in_table_body e refl (current_at (R.cleared G.is_table_context b) k.sound P.in_table m) refl
 
-  row_opened : b.mode ≡ P.in_table_body → (own : HtmlTag) → G.group own.name ≡ G.a_row → Alike (R.row_opened b own) (S.row_opened c (tag_of own))
-  row_opened m own e =
+  row_opened : b.mode ≡ P.in_table_body → (own : HtmlTag) (source : Option ℕ) → G.group own.name ≡ G.a_row → Alike (R.row_opened b own) (S.row_opened c (tag_with source own))
+  row_opened m own source e =
       let k = at_body m in
-      A.opened k own G.a_row P.in_row e refl (current_at (R.cleared G.is_body_context b) k.sound P.in_table_body m) refl
+      A.opened k own source G.a_row P.in_row e refl (current_at (R.cleared G.is_body_context b) k.sound P.in_table_body m) refl
 
-  cell_opened : b.mode ≡ P.in_row → (own : HtmlTag) → G.group own.name ≡ G.a_cell →
-      Alike (R.cell_opened b own) (B.switch_to B.in_cell (B.insert_marker (B.insert_element (tag_of own) (S.clear_stack_back_to_table_row_context c))))
-  cell_opened m own e =
+  cell_opened : b.mode ≡ P.in_row → (own : HtmlTag) (source : Option ℕ) → G.group own.name ≡ G.a_cell →
+      Alike (R.cell_opened b own) (B.switch_to B.in_cell (B.insert_marker (B.insert_element (tag_with source own) (S.clear_stack_back_to_table_row_context c))))
+  cell_opened m own source e =
       let k = at_row m in
-      A.marked (A.opened k own G.a_cell P.in_cell e refl (current_at (R.cleared G.is_row_context b) k.sound P.in_row m) refl)
+      A.marked (A.opened k own source G.a_cell P.in_cell e refl (current_at (R.cleared G.is_row_context b) k.sound P.in_row m) refl)
 
-  caption_opened : b.mode ≡ P.in_table → (own : HtmlTag) → G.group own.name ≡ G.a_caption →
+  caption_opened : b.mode ≡ P.in_table → (own : HtmlTag) (source : Option ℕ) → G.group own.name ≡ G.a_caption →
       Alike (R.to_mode P.in_caption (P.inserted (R.with_marker (R.cleared G.is_table_context b)) own))
-      (B.switch_to B.in_caption (B.insert_element (tag_of own) (B.insert_marker (S.clear_stack_back_to_table_context c))))
-  caption_opened m own e =
+      (B.switch_to B.in_caption (B.insert_element (tag_with source own) (B.insert_marker (S.clear_stack_back_to_table_context c))))
+  caption_opened m own source e =
       let k = at_table m in
-      A.opened (A.marked k) own G.a_caption P.in_caption e refl (current_at (R.cleared G.is_table_context b) k.sound P.in_table m) refl
+      A.opened (A.marked k) own source G.a_caption P.in_caption e refl (current_at (R.cleared G.is_table_context b) k.sound P.in_table m) refl
 
-  column_group_opened : b.mode ≡ P.in_table → (own : HtmlTag) → G.group own.name ≡ G.a_column_group →
+  column_group_opened : b.mode ≡ P.in_table → (own : HtmlTag) (source : Option ℕ) → G.group own.name ≡ G.a_column_group →
       Alike (R.to_mode P.in_column_group (P.inserted (R.cleared G.is_table_context b) own))
-      (B.switch_to B.in_column_group (B.insert_element (tag_of own) (S.clear_stack_back_to_table_context c)))
-  column_group_opened m own e =
+      (B.switch_to B.in_column_group (B.insert_element (tag_with source own) (S.clear_stack_back_to_table_context c)))
+  column_group_opened m own source e =
       let k = at_table m in
-      A.opened k own G.a_column_group P.in_column_group e refl (current_at (R.cleared G.is_table_context b) k.sound P.in_table m) refl
+      A.opened k own source G.a_column_group P.in_column_group e refl (current_at (R.cleared G.is_table_context b) k.sound P.in_table m) refl
 
-  alone : (own : HtmlTag) → Alike (P.alone b own) (B.insert_and_pop (tag_of own) c)
-  alone own = record { sound = alone_sound b own h.sound; like = O.alone h.like own }
+  alone : (own : HtmlTag) (source : Option ℕ) → Alike (P.alone b own) (B.insert_and_pop (tag_with source own) c)
+  alone own source = record { sound = alone_sound b own h.sound; like = O.alone h.like own source }
 
 around_table : (around : G.Group) (outer : P.Mode) → G.is_table_group around ≡ true → P.mode_by around outer ≡ P.in_table
 around_table G.a_table outer h = refl
@@ -289,7 +291,7 @@ pub cell_in_scope : (b : P.Builder) → Sound b → b.mode ≡ P.in_cell → R.h
 cell_in_scope b h m = cell_within b.stack.current b.stack.others h.stack (sym h.mode ∙ m)
 
 column_same : {b : P.Builder} {c : B.Builder} → Like b c → S.is_in_column_group c ≡ R.is_in_column_group b
-column_same {b = b} h = ap (λ p. T.is_any (codes "colgroup") (W.top p).tag) h.path ∙ sym (facts (name_of b.stack.current)).column_group
+column_same {b = b} {c = c} h = ap (λ (f : W.Frame). T.is_any (codes "colgroup") f.tag) (top-bare c.path) ∙ ap (λ p. T.is_any (codes "colgroup") (W.top p).tag) h.path ∙ sym (facts (name_of b.stack.current)).column_group
 
 -- Start tags
 
@@ -299,23 +301,23 @@ body_same own = (facts own.name).table_body
 row_same : (own : HtmlTag) → G.is_row own.name ≡ S.is_row (tag_of own)
 row_same own = (facts own.name).row
 
-module _ (own : HtmlTag) (closes : Bool) (after : P.Builder) where
+module _ (own : HtmlTag) (source : Option ℕ) (closes : Bool) (after : P.Builder) where
   abbrev start : G.Group → B.Token
-  start g = B.a_start (twin g) (tag_of own) closes
+  start g = B.a_start (twin g) (tag_with source own) closes
 
   abbrev starts : G.Group → B.Builder → B.Outcome
   starts g = M.dispatch (start g)
 
   -- by the rules of "in body"
   pub body_start : (b : P.Builder) (c : B.Builder) → Alike b c → P.is_flow b.mode ≡ true → (g : G.Group) → G.group own.name ≡ g → has_twin g ≡ true →
-      R.body_start b g own ≡ Some after → (n : ℕ) → Reaches (Body.body_start c (twin g) (tag_of own) closes) n (starts g) after
+      R.body_start b g own ≡ Some after → (n : ℕ) → Reaches (Body.body_start c (twin g) (tag_with source own) closes) n (starts g) after
   body_start b c h k g e t eq n =
-      let f = start_in_body b c h k own closes after (ap (λ x. R.body_start b x own) e ∙ eq) in
+      let f = start_in_body b c h k own source closes after (ap (λ x. R.body_start b x own) e ∙ eq) in
       let d : D.group own.name ≡ twin g = (facts own.name).twins (ap has_twin e ∙ t) ∙ ap twin e in
-      subst (λ o. Reaches o n (starts g) after) (sym (ap (λ x. Body.body_start c x (tag_of own) closes) (sym d) ∙ f.1)) f.2
+      subst (λ o. Reaches o n (starts g) after) (sym (ap (λ x. Body.body_start c x (tag_with source own) closes) (sym d) ∙ f.1)) f.2
 
   -- in a mode where the rules of "in body" are used for it, a table is opened by them
-  flow_start : (m : P.Mode) (d : B.Builder) → P.is_flow m ≡ true → M.mode_step (mode_is m) d (start G.a_table) ≡ Body.body_start d D.a_table (tag_of own) closes
+  flow_start : (m : P.Mode) (d : B.Builder) → P.is_flow m ≡ true → M.mode_step (mode_is m) d (start G.a_table) ≡ Body.body_start d D.a_table (tag_with source own) closes
   flow_start P.in_body d k = refl
   flow_start P.in_cell d k = refl
   flow_start P.in_caption d k = refl
@@ -334,7 +336,7 @@ module _ (own : HtmlTag) (closes : Bool) (after : P.Builder) where
       ]
 
   table_again : (b : P.Builder) (c : B.Builder) → Alike b c → G.group own.name ≡ G.a_table → (n : ℕ) → R.table_start b G.a_table own ≡ Some after →
-      Reaches (S.table_start c D.a_table (tag_of own) closes) (suc n) (starts G.a_table) after
+      Reaches (S.table_start c D.a_table (tag_with source own) closes) (suc n) (starts G.a_table) after
   table_again b c h e n eq = elim (cases_Bool (R.has_in_table_scope G.is_table b)) [
     | inl y ↦ subst (λ o. Reaches o (suc n) (starts G.a_table) after)
         (sym (cond-true _ _ _ (in_table_scope h.like G.is_table T.is_table A.table_same ∙ y)))
@@ -346,7 +348,7 @@ module _ (own : HtmlTag) (closes : Bool) (after : P.Builder) where
 
   -- what is no part of a table, in one
   table_other : (b : P.Builder) (c : B.Builder) → Alike b c → (g : G.Group) → G.group own.name ≡ g → G.is_part g ≡ false → (n : ℕ) → R.table_start b g own ≡ Some after →
-      Reaches (S.table_start c (twin g) (tag_of own) closes) (suc n) (starts g) after
+      Reaches (S.table_start c (twin g) (tag_with source own) closes) (suc n) (starts g) after
   table_other b c h G.a_table e k n eq = table_again b c h e n eq
   table_other b c h G.a_caption e k n eq = absurd (true≢false k)
   table_other b c h G.a_column_group e k n eq = absurd (true≢false k)
@@ -360,26 +362,26 @@ module _ (own : HtmlTag) (closes : Bool) (after : P.Builder) where
   implied n = R.implied_tag n
 
   table_start : (b : P.Builder) (c : B.Builder) → Alike b c → b.mode ≡ P.in_table → (g : G.Group) → G.group own.name ≡ g → (n : ℕ) → R.table_start b g own ≡ Some after →
-      Reaches (S.table_start c (twin g) (tag_of own) closes) (suc (suc n)) (starts g) after
-  table_start b c h m G.a_caption e n eq = done eq (caption_opened h m own e)
-  table_start b c h m G.a_column_group e n eq = done eq (column_group_opened h m own e)
+      Reaches (S.table_start c (twin g) (tag_with source own) closes) (suc (suc n)) (starts g) after
+  table_start b c h m G.a_caption e n eq = done eq (caption_opened h m own source e)
+  table_start b c h m G.a_column_group e n eq = done eq (column_group_opened h m own source e)
   table_start b c h m G.a_column e n eq =
-      let o = A.counted (column_group_opened h m (implied (codes "colgroup")) refl) in
-      again o (start G.a_column) (suc n) after (done eq (alone o own))
-  table_start b c h m G.a_table_body e n eq = done eq (body_opened h m own e)
+      let o = A.counted (column_group_opened h m (implied (codes "colgroup")) None refl) in
+      again o (start G.a_column) (suc n) after (done eq (alone o own source))
+  table_start b c h m G.a_table_body e n eq = done eq (body_opened h m own source e)
   table_start b c h m G.a_row e n eq =
-      let o = A.counted (body_opened h m (implied (codes "tbody")) refl) in
-      again o (start G.a_row) (suc n) after (done eq (row_opened o refl own e))
+      let o = A.counted (body_opened h m (implied (codes "tbody")) None refl) in
+      again o (start G.a_row) (suc n) after (done eq (row_opened o refl own source e))
   table_start b c h m G.a_cell e n eq =
-      let o = A.counted (body_opened h m (implied (codes "tbody")) refl) in
-      let p = A.counted (row_opened o refl (implied (codes "tr")) refl) in
-      again o (start G.a_cell) (suc n) after (again p (start G.a_cell) n after (done eq (cell_opened p refl own e)))
+      let o = A.counted (body_opened h m (implied (codes "tbody")) None refl) in
+      let p = A.counted (row_opened o refl (implied (codes "tr")) None refl) in
+      again o (start G.a_cell) (suc n) after (again p (start G.a_cell) n after (done eq (cell_opened p refl own source e)))
   table_start b c h m G.a_table e n eq = table_again b c h e (suc n) eq
   table_start b c h m _ e n eq = absurd (no_answer after eq)
 
   -- the next mode's rules, where a part of a table is closed for them
   body_part : (b : P.Builder) (c : B.Builder) → Alike b c → b.mode ≡ P.in_table_body → (g : G.Group) → G.group own.name ≡ g → (n : ℕ) → R.body_part_start b g own ≡ Some after →
-      (M.mode_step B.in_table (S.body_closed c) (start g) ≡ S.table_start (S.body_closed c) (twin g) (tag_of own) closes) →
+      (M.mode_step B.in_table (S.body_closed c) (start g) ≡ S.table_start (S.body_closed c) (twin g) (tag_with source own) closes) →
       Reaches (S.after_table_body c) (suc (suc (suc n))) (starts g) after
   body_part b c h m g e n eq same =
       either_way (suc (suc (suc n))) (starts g) after (R.has_in_table_scope G.is_table_body b) (B.has_in_table_scope (T.is_any (codes "tbody tfoot thead")) c)
@@ -390,11 +392,11 @@ module _ (own : HtmlTag) (closes : Bool) (after : P.Builder) where
       (λ a. done a h) eq
 
   table_body_start : (b : P.Builder) (c : B.Builder) → Alike b c → b.mode ≡ P.in_table_body → (g : G.Group) → G.group own.name ≡ g → (n : ℕ) → R.table_body_start b g own ≡ Some after →
-      Reaches (S.table_body_start c (twin g) (tag_of own) closes) (suc (suc (suc n))) (starts g) after
-  table_body_start b c h m G.a_row e n eq = done eq (row_opened h m own e)
+      Reaches (S.table_body_start c (twin g) (tag_with source own) closes) (suc (suc (suc n))) (starts g) after
+  table_body_start b c h m G.a_row e n eq = done eq (row_opened h m own source e)
   table_body_start b c h m G.a_cell e n eq =
-      let o = A.counted (row_opened h m (implied (codes "tr")) refl) in
-      again o (start G.a_cell) (suc (suc n)) after (done eq (cell_opened o refl own e))
+      let o = A.counted (row_opened h m (implied (codes "tr")) None refl) in
+      again o (start G.a_cell) (suc (suc n)) after (done eq (cell_opened o refl own source e))
   table_body_start b c h m G.a_caption e n eq = body_part b c h m G.a_caption e n eq refl
   table_body_start b c h m G.a_column_group e n eq = body_part b c h m G.a_column_group e n eq refl
   table_body_start b c h m G.a_column e n eq = body_part b c h m G.a_column e n eq refl
@@ -403,7 +405,7 @@ module _ (own : HtmlTag) (closes : Bool) (after : P.Builder) where
   table_body_start b c h m _ e n eq = absurd (no_answer after eq)
 
   row_part : (b : P.Builder) (c : B.Builder) → Alike b c → b.mode ≡ P.in_row → (g : G.Group) → G.group own.name ≡ g → (n : ℕ) → R.row_part_start b g own ≡ Some after →
-      (M.mode_step B.in_table_body (S.row_closed c) (start g) ≡ S.table_body_start (S.row_closed c) (twin g) (tag_of own) closes) →
+      (M.mode_step B.in_table_body (S.row_closed c) (start g) ≡ S.table_body_start (S.row_closed c) (twin g) (tag_with source own) closes) →
       Reaches (S.after_row c) (suc (suc (suc (suc n)))) (starts g) after
   row_part b c h m g e n eq same =
       either_way (suc (suc (suc (suc n)))) (starts g) after (R.has_in_table_scope G.is_row b) (B.has_in_table_scope S.is_row c)
@@ -414,8 +416,8 @@ module _ (own : HtmlTag) (closes : Bool) (after : P.Builder) where
       (λ a. done a h) eq
 
   row_start : (b : P.Builder) (c : B.Builder) → Alike b c → b.mode ≡ P.in_row → (g : G.Group) → G.group own.name ≡ g → (n : ℕ) → R.row_start b g own ≡ Some after →
-      Reaches (S.row_start c (twin g) (tag_of own) closes) (suc (suc (suc (suc n)))) (starts g) after
-  row_start b c h m G.a_cell e n eq = done eq (cell_opened h m own e)
+      Reaches (S.row_start c (twin g) (tag_with source own) closes) (suc (suc (suc (suc n)))) (starts g) after
+  row_start b c h m G.a_cell e n eq = done eq (cell_opened h m own source e)
   row_start b c h m G.a_caption e n eq = row_part b c h m G.a_caption e n eq refl
   row_start b c h m G.a_column_group e n eq = row_part b c h m G.a_column_group e n eq refl
   row_start b c h m G.a_column e n eq = row_part b c h m G.a_column e n eq refl
@@ -426,7 +428,7 @@ module _ (own : HtmlTag) (closes : Bool) (after : P.Builder) where
 
   -- a part of a table ends a cell
   cell_part : (b : P.Builder) (c : B.Builder) → Alike b c → b.mode ≡ P.in_cell → (g : G.Group) → G.group own.name ≡ g → (n : ℕ) → R.row_start (R.cell_closed b) g own ≡ Some after →
-      (M.mode_step B.in_row (S.cell_closed S.is_cell c) (start g) ≡ S.row_start (S.cell_closed S.is_cell c) (twin g) (tag_of own) closes) →
+      (M.mode_step B.in_row (S.cell_closed S.is_cell c) (start g) ≡ S.row_start (S.cell_closed S.is_cell c) (twin g) (tag_with source own) closes) →
       Reaches (S.after_cell c) (suc (suc (suc (suc (suc n))))) (starts g) after
   cell_part b c h m g e n eq same =
       let opens = cell_in_scope b h.sound m in
@@ -438,7 +440,7 @@ module _ (own : HtmlTag) (closes : Bool) (after : P.Builder) where
 
   -- and a caption
   caption_part : (b : P.Builder) (c : B.Builder) → Alike b c → b.mode ≡ P.in_caption → (g : G.Group) → G.group own.name ≡ g → (n : ℕ) → R.caption_part_start b g own ≡ Some after →
-      (M.mode_step B.in_table (S.caption_closed c) (start g) ≡ S.table_start (S.caption_closed c) (twin g) (tag_of own) closes) →
+      (M.mode_step B.in_table (S.caption_closed c) (start g) ≡ S.table_start (S.caption_closed c) (twin g) (tag_with source own) closes) →
       Reaches (S.after_caption c) (suc (suc (suc n))) (starts g) after
   caption_part b c h m g e n eq same =
       either_way (suc (suc (suc n))) (starts g) after (R.has_in_table_scope G.is_caption b) (B.has_in_table_scope S.is_caption c)
@@ -451,7 +453,7 @@ module _ (own : HtmlTag) (closes : Bool) (after : P.Builder) where
   -- anything else ends a column group
   column_other : (b : P.Builder) (c : B.Builder) → Alike b c → b.mode ≡ P.in_column_group → (g : G.Group) → G.group own.name ≡ g → (n : ℕ) →
       (if R.is_in_column_group b then R.table_start (R.column_group_closed b) g own else Some b) ≡ Some after →
-      (M.mode_step B.in_table (S.column_group_closed c) (start g) ≡ S.table_start (S.column_group_closed c) (twin g) (tag_of own) closes) →
+      (M.mode_step B.in_table (S.column_group_closed c) (start g) ≡ S.table_start (S.column_group_closed c) (twin g) (tag_with source own) closes) →
       Reaches (S.after_column_group c) (suc (suc (suc n))) (starts g) after
   column_other b c h m g e n eq same =
       either_way (suc (suc (suc n))) (starts g) after (R.is_in_column_group b) (S.is_in_column_group c)
@@ -462,15 +464,15 @@ module _ (own : HtmlTag) (closes : Bool) (after : P.Builder) where
       (λ a. done a h) eq
 
   column_start : (b : P.Builder) (c : B.Builder) → Alike b c → b.mode ≡ P.in_column_group → (g : G.Group) → G.group own.name ≡ g → has_twin g ≡ true → (n : ℕ) → R.column_start b g own ≡ Some after →
-      Reaches (S.column_start c (twin g) (tag_of own)) (suc (suc (suc n))) (starts g) after
-  column_start b c h m G.a_column e t n eq = done eq (alone h own)
+      Reaches (S.column_start c (twin g) (tag_with source own)) (suc (suc (suc n))) (starts g) after
+  column_start b c h m G.a_column e t n eq = done eq (alone h own source)
   column_start b c h m G.elsewhere e t n eq = absurd (no_answer after eq)
   column_start b c h m G.misplaced e t n eq = absurd (true≢false (sym t))
   column_start b c h m G.an_option e t n eq = absurd (true≢false (sym t))
   column_start b c h m g e t n eq = column_other b c h m g e n eq refl
 
   caption_start : (b : P.Builder) (c : B.Builder) → Alike b c → b.mode ≡ P.in_caption → (g : G.Group) → G.group own.name ≡ g → has_twin g ≡ true → (n : ℕ) → R.caption_start b g own ≡ Some after →
-      Reaches (S.caption_start c (twin g) (tag_of own) closes) (suc (suc (suc n))) (starts g) after
+      Reaches (S.caption_start c (twin g) (tag_with source own) closes) (suc (suc (suc n))) (starts g) after
   caption_start b c h m G.a_caption e t n eq = caption_part b c h m G.a_caption e n eq refl
   caption_start b c h m G.a_column_group e t n eq = caption_part b c h m G.a_column_group e n eq refl
   caption_start b c h m G.a_column e t n eq = caption_part b c h m G.a_column e n eq refl
@@ -480,7 +482,7 @@ module _ (own : HtmlTag) (closes : Bool) (after : P.Builder) where
   caption_start b c h m g e t n eq = body_start b c h (ap P.is_flow m) g e t eq (suc (suc (suc n)))
 
   cell_start : (b : P.Builder) (c : B.Builder) → Alike b c → b.mode ≡ P.in_cell → (g : G.Group) → G.group own.name ≡ g → has_twin g ≡ true → (n : ℕ) → R.cell_start b g own ≡ Some after →
-      Reaches (S.cell_start c (twin g) (tag_of own) closes) (suc (suc (suc (suc (suc n))))) (starts g) after
+      Reaches (S.cell_start c (twin g) (tag_with source own) closes) (suc (suc (suc (suc (suc n))))) (starts g) after
   cell_start b c h m G.a_caption e t n eq = cell_part b c h m G.a_caption e n eq refl
   cell_start b c h m G.a_column_group e t n eq = cell_part b c h m G.a_column_group e n eq refl
   cell_start b c h m G.a_column e t n eq = cell_part b c h m G.a_column e n eq refl
@@ -524,17 +526,17 @@ module _ (own : HtmlTag) (closes : Bool) (after : P.Builder) where
   lost b h m e _ t eq = absurd (true≢false t)
 
   lost_step : (d : D.Group) → (d ≡ D.the_head) ⊎ (d ≡ D.a_frame) → (m : P.Mode) (c : B.Builder) → P.is_flow m ≡ true →
-      M.mode_step (mode_is m) c (B.a_start d (tag_of own) closes) ≡ Body.body_start c d (tag_of own) closes
-  lost_step d (inl y) m c k = ap (λ x. M.mode_step (mode_is m) c (B.a_start x (tag_of own) closes)) y ∙ at_head m c k ∙ ap (λ x. Body.body_start c x (tag_of own) closes) (sym y)
+      M.mode_step (mode_is m) c (B.a_start d (tag_with source own) closes) ≡ Body.body_start c d (tag_with source own) closes
+  lost_step d (inl y) m c k = ap (λ x. M.mode_step (mode_is m) c (B.a_start x (tag_with source own) closes)) y ∙ at_head m c k ∙ ap (λ x. Body.body_start c x (tag_with source own) closes) (sym y)
     where
-      at_head : (m : P.Mode) (c : B.Builder) → P.is_flow m ≡ true → M.mode_step (mode_is m) c (B.a_start D.the_head (tag_of own) closes) ≡ Body.body_start c D.the_head (tag_of own) closes
+      at_head : (m : P.Mode) (c : B.Builder) → P.is_flow m ≡ true → M.mode_step (mode_is m) c (B.a_start D.the_head (tag_with source own) closes) ≡ Body.body_start c D.the_head (tag_with source own) closes
       at_head P.in_body c k = refl
       at_head P.in_caption c k = refl
       at_head P.in_cell c k = refl
       at_head _ c k = absurd (true≢false (sym k))
-  lost_step d (inr y) m c k = ap (λ x. M.mode_step (mode_is m) c (B.a_start x (tag_of own) closes)) y ∙ at_frame m c k ∙ ap (λ x. Body.body_start c x (tag_of own) closes) (sym y)
+  lost_step d (inr y) m c k = ap (λ x. M.mode_step (mode_is m) c (B.a_start x (tag_with source own) closes)) y ∙ at_frame m c k ∙ ap (λ x. Body.body_start c x (tag_with source own) closes) (sym y)
     where
-      at_frame : (m : P.Mode) (c : B.Builder) → P.is_flow m ≡ true → M.mode_step (mode_is m) c (B.a_start D.a_frame (tag_of own) closes) ≡ Body.body_start c D.a_frame (tag_of own) closes
+      at_frame : (m : P.Mode) (c : B.Builder) → P.is_flow m ≡ true → M.mode_step (mode_is m) c (B.a_start D.a_frame (tag_with source own) closes) ≡ Body.body_start c D.a_frame (tag_with source own) closes
       at_frame P.in_body c k = refl
       at_frame P.in_caption c k = refl
       at_frame P.in_cell c k = refl
@@ -542,16 +544,16 @@ module _ (own : HtmlTag) (closes : Bool) (after : P.Builder) where
 
   -- a start tag, in any mode
   abbrev started : B.Token
-  started = B.a_start (D.group own.name) (tag_of own) closes
+  started = B.a_start (D.group own.name) (tag_with source own) closes
 
   pub a_start : (b : P.Builder) (c : B.Builder) → Alike b c → (n : ℕ) → R.start_tag b.mode b (G.group own.name) own ≡ Some after →
       Reaches (M.mode_step (mode_is b.mode) c started) (suc (suc (suc (suc (suc n))))) (M.dispatch started) after
   a_start b c h n eq = elim (cases_Bool (has_twin (G.group own.name))) [
-    | inl t ↦ subst (λ d. Reaches (M.mode_step (mode_is b.mode) c (B.a_start d (tag_of own) closes)) (suc (suc (suc (suc (suc n))))) (M.dispatch (B.a_start d (tag_of own) closes)) after)
+    | inl t ↦ subst (λ d. Reaches (M.mode_step (mode_is b.mode) c (B.a_start d (tag_with source own) closes)) (suc (suc (suc (suc (suc n))))) (M.dispatch (B.a_start d (tag_with source own) closes)) after)
         (sym ((facts own.name).twins t)) (twin_start b c h b.mode refl (G.group own.name) refl t n eq)
     | inr t ↦ (
         let l = lost b h.sound b.mode refl (G.group own.name) t eq in
-        let f = start_in_body b c h l.0 own closes after (flow_rule b b.mode (G.group own.name) l.0 l.1 eq) in
+        let f = start_in_body b c h l.0 own source closes after (flow_rule b b.mode (G.group own.name) l.0 l.1 eq) in
         subst (λ o. Reaches o (suc (suc (suc (suc (suc n))))) (M.dispatch started) after)
         (sym (lost_step (D.group own.name) ((facts own.name).lost l.1) b.mode c l.0 ∙ f.1)) f.2)
   ]

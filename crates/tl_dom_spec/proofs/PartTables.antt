@@ -1,5 +1,5 @@
 -- The operations of the modes of tables leave both builders alike.
-use Rattle.std.proofs.Common.{◌≡◌, ℕ, suc, Bool, true, false, not, ◌||◌, ◌&&◌, ◌⊎◌, List, [], ◌∷◌, map, Some, codes, refl, ap, sym, ◌∙◌, subst, inl, inr, true≢false}
+use Rattle.std.proofs.Common.{Bool, List, Option, Some, [], ap, codes, false, inl, inr, map, not, refl, subst, suc, sym, true, true≢false, ℕ, ◌&&◌, ◌||◌, ◌∙◌, ◌∷◌, ◌≡◌, ◌⊎◌}
 use Rattle.std.proofs.lemmas.Bool.{and_parts, cases_Bool, cond-false, cond-true}
 use Rattle.tl_tree_spec.specs.Builder as P
 use Rattle.tl_tree_spec.specs.HtmlTreeBuilder as R
@@ -13,11 +13,12 @@ use Rattle.tl_dom_spec.specs.Builder as B
 use Rattle.tl_dom_spec.specs.Reset as E
 use Rattle.tl_dom_spec.specs.Tables as S
 use Rattle.tl_dom_spec.proofs.PartNames.{facts, has_twin, twin}
-use Rattle.tl_dom_spec.proofs.PartPaths.{IsStack, back_is, elements_are, frame_of, frames_of, has_in, has_within, name_of, path_of, same_all, tag_of}
+use Rattle.tl_dom_spec.proofs.PartPaths.{IsStack, back_is, elements_are, frame_of, frames_of, has_in, has_within, name_of, path_of, same_all, tag_of, tag_with}
 use Rattle.tl_dom_spec.proofs.PartActive.{marker_listed, without_last_marker_is}
 use Rattle.tl_dom_spec.proofs.PartBuilders.{Alike, AreNumbered, Like, Sound, Stand, is_flow_group, mode_is, stands_in}
 use Rattle.tl_dom_spec.proofs.PartOps as O
 use Rattle.tl_dom_spec.proofs.PartSound.{agrees_marker, group_of, names_in, numbers_by, numbers_same, pushed_sound, stack_same, stand_same}
+use Rattle.tl_dom_spec.proofs.PartSources.{elements-bare, has_within-bare, mode_of-bare, popped-bare, popped_to-bare, seen, without_last_marker-bare}
 
 -- The mode and the current element
 
@@ -187,20 +188,20 @@ module _ {b : P.Builder} {c : B.Builder} (h : Alike b c) where
     kept s e = subst (λ (z : P.Stack). Sound (P.with_stack b z)) (sym e)
         (record { stack = h.sound.stack; stand = h.sound.stand; entries = h.sound.entries; numbers = h.sound.numbers; mode = h.sound.mode })
 
-    pub cleared : Alike (R.cleared test b) (B.clear_stack_back_to tested c)
+    pub cleared : Alike (R.cleared test b) (B.clear_stack_back_to (seen tested) c)
     cleared = record {
       sound = kept (R.popped_back test b.stack.current b.stack.others) stack_kept;
-      like = O.with_path h.like (R.popped_back test b.stack.current b.stack.others) (W.popped_to (W.has_tag tested) c.path)
-          (ap (W.popped_to (W.has_tag tested)) h.like.path ∙ back_is test tested same last b.stack h.sound.stack);
+      like = O.with_path h.like (R.popped_back test b.stack.current b.stack.others) (W.popped_to (W.has_tag (seen tested)) c.path)
+          (popped_to-bare (W.has_tag (seen tested)) (W.has_tag tested) (λ _. refl) c.path ∙ ap (W.popped_to (W.has_tag tested)) h.like.path ∙ back_is test tested same last b.stack h.sound.stack);
     }
 
   -- a part of a table is inserted, and the mode is that of it
-  pub opened : (own : HtmlTag) (g : G.Group) (m : P.Mode) → G.group own.name ≡ g → has_twin g ≡ true →
+  pub opened : (own : HtmlTag) (source : Option ℕ) (g : G.Group) (m : P.Mode) → G.group own.name ≡ g → has_twin g ≡ true →
       stands_in g (group_of b.stack.current) ≡ true → m ≡ P.mode_by g b.mode →
-      Alike (R.to_mode m (P.inserted b own)) (B.switch_to (mode_is m) (B.insert_element (tag_of own) c))
-  opened own g m e twin stands k = record {
+      Alike (R.to_mode m (P.inserted b own)) (B.switch_to (mode_is m) (B.insert_element (tag_with source own) c))
+  opened own source g m e twin stands k = record {
     sound = pushed_sound b own m h.sound (ap has_twin e ∙ twin) (ap (λ x. stands_in x (group_of b.stack.current)) e ∙ stands) (k ∙ ap (λ x. P.mode_by x b.mode) (sym e));
-    like = O.in_mode (O.inserted h.like own) m;
+    like = O.in_mode (O.inserted h.like own source) m;
   }
 
   -- a marker
@@ -246,13 +247,13 @@ module _ {b : P.Builder} {c : B.Builder} (h : Alike b c) where
             mode = one_mode b.stack.current b.stack.others h.sound.stack h.sound.stand here;
           };
           like = O.in_mode (O.with_path h.like (P.popped b.stack.current b.stack.others) (W.popped c.path)
-              (ap W.popped h.like.path ∙ one_popped b.stack.current b.stack.others h.sound.stack here)) m;
+              (popped-bare c.path ∙ ap W.popped h.like.path ∙ one_popped b.stack.current b.stack.others h.sound.stack here)) m;
         }
 
   -- a cell or a caption is closed, with what it marked
   module _ (test : List ℕ → Bool) (tested : Tag → Bool) (same : (own : HtmlTag) → test own.name ≡ tested (tag_of own)) (last : test (codes "html") ≡ false)
       (m : P.Mode) (leads : Leads test m) (off : (n : List ℕ) → G.is_implied n ≡ true → test n ≡ false) (opens : R.has_in_table_scope test b ≡ true) where
-    pub marked_closed : Alike (R.marked_closed test m b) (B.switch_to (mode_is m) (B.clear_to_last_marker (B.close_except_for T.no_tag tested c)))
+    pub marked_closed : Alike (R.marked_closed test m b) (B.switch_to (mode_is m) (B.clear_to_last_marker (B.close_except_for T.no_tag (seen tested) c)))
     marked_closed =
         let implied = P.implied_closed P.no_name b.stack.current b.stack.others in
         let s = implied_stays b.next b.active P.no_name b.stack.current b.stack.others (stays b h.sound) in
@@ -269,7 +270,7 @@ module _ {b : P.Builder} {c : B.Builder} (h : Alike b c) where
             mode = sym (through_mode test m leads implied.current implied.others s.stand found);
           };
           like = O.in_mode (O.with_active l (P.without_last_marker b.active) (B.without_last_marker c.active)
-              (ap B.without_last_marker h.like.active ∙ without_last_marker_is b.active)) m;
+              (without_last_marker-bare c.active ∙ ap B.without_last_marker h.like.active ∙ without_last_marker_is b.active)) m;
         }
 
 -- The insertion mode is reset appropriately
@@ -295,7 +296,7 @@ reset {b = b} {c = c} h k = record {
   path = h.path;
   active = h.active;
   next = h.next;
-  mode = ap (λ p. E.mode_of c (W.elements p)) h.path ∙ ap (E.mode_of c) (elements_are (frames_of b.stack)) ∙ reset_is c h.context b.stack.current b.stack.others k;
+  mode = mode_of-bare c (W.elements c.path) ∙ ap (E.mode_of c) (elements-bare c.path) ∙ ap (λ p. E.mode_of c (W.elements p)) h.path ∙ ap (E.mode_of c) (elements_are (frames_of b.stack)) ∙ reset_is c h.context b.stack.current b.stack.others k;
   skips = h.skips;
   fostering = h.fostering;
   quirks = h.quirks;
@@ -322,7 +323,7 @@ pub table_scope_same : (own : HtmlTag) → G.is_table_scope own.name ≡ T.is_ta
 table_scope_same own = refl
 
 pub in_table_scope : {b : P.Builder} {c : B.Builder} → Like b c → (test : List ℕ → Bool) (tested : Tag → Bool) → ((own : HtmlTag) → test own.name ≡ tested (tag_of own)) →
-    B.has_in_table_scope tested c ≡ R.has_in_table_scope test b
-in_table_scope {b = b} h test tested same =
-    ap (W.has_within tested T.is_table_scope) h.path
+    B.has_in_table_scope (seen tested) c ≡ R.has_in_table_scope test b
+in_table_scope {b = b} {c = c} h test tested same =
+    has_within-bare tested T.is_table_scope c.path ∙ ap (W.has_within tested T.is_table_scope) h.path
     ∙ has_within test G.is_table_scope tested T.is_table_scope b.stack (same_all test tested same (frames_of b.stack)) (same_all G.is_table_scope T.is_table_scope table_scope_same (frames_of b.stack))

@@ -23,7 +23,8 @@ use Rattle.tl_dom_spec.specs.Dispatcher as M
 use Rattle.tl_dom_spec.specs.Driver.{token_of}
 use Rattle.tl_dom_spec.specs.HtmlTree as H
 use Rattle.tl_dom_spec.specs.HtmlForest as F
-use Rattle.tl_dom_spec.specs.Partial.{whole}
+use Rattle.tl_dom_spec.specs.Partial.{whole, without_numbers}
+use Rattle.tl_dom_spec.proofs.PartSources.{bare_path, html_content-bare, open-bare, popped_to-bare, put-bare, top-bare, trees-bare}
 use Rattle.tl_dom_spec.proofs.PartNames.{facts, has_twin}
 use Rattle.tl_dom_spec.proofs.PartPaths.{IsStack, elements_are, eq_suc, frame_of, frames_of, name_of, nodes_of, path_of, pops_on, stays_on, tag_of}
 use Rattle.tl_dom_spec.proofs.PartBuilders.{Alike, Like, Sound, mode_is}
@@ -75,6 +76,18 @@ count_token {b = b} {c = c} h =
     same_goes b (nat_lt taken.excess (M.excess_of taken)) (record taken { excess = M.excess_of taken }) taken
     (counted (suc c.tokens) (M.excess_of taken) h) (counted (suc c.tokens) c.excess h)
 
+started : {b : P.Builder} {c : B.Builder} (n : ℕ) → Goes b c → Goes b (record c { starts = n })
+started n (inl h) = inl (record { sound = h.sound; like = O.numbering h.like n })
+started n (inr w) = inr (record {
+  first = w.first;
+  rest = w.rest;
+  pending = w.pending;
+  blank = w.blank;
+  mode = w.mode;
+  outer = w.outer;
+  alike = record { sound = w.alike.sound; like = O.numbering w.alike.like n };
+})
+
 calm_sound : (b : P.Builder) → Sound b → Sound (R.calm b)
 calm_sound b h = record { stack = h.stack; stand = h.stand; entries = h.entries; numbers = h.numbers; mode = h.mode }
 
@@ -120,17 +133,19 @@ put_top (f ∷ path) xs = refl
 
 module _ {b : P.Builder} {c : B.Builder} (w : Waits b c) where
   -- the current element, which is one of HTML
-  top_is : (W.top c.path).tag ≡ tag_of b.stack.current.element.own
+  top_is : (W.top (bare_path c.path)).tag ≡ tag_of b.stack.current.element.own
   top_is =
-      sym (put_top c.path c.pending)
-      ∙ ap (λ v. (W.top (put_in v c.path c.pending)).tag) (sym w.alike.like.fostering)
+      sym (put_top (bare_path c.path) c.pending)
+      ∙ ap (λ p. (W.top p).tag) (sym (put-bare W.here (W.and_text W.no_nodes c.pending) c.path))
+      ∙ ap (λ v. (W.top (bare_path (put_in v c.path c.pending))).tag) (sym w.alike.like.fostering)
       ∙ ap (λ p. (W.top p).tag) w.alike.like.path
 
   content : (token : B.Token) → M.is_html_content (B.adjusted_current_node c) token ≡ true
   content token =
-      ap (λ x. M.is_html_content (B.adjusted_tag x c.path) token) w.alike.like.context
-      ∙ ap (λ t. M.is_html_content (if B.is_only (W.elements c.path) then bare_tag (codes "div") else t) token) top_is
-      ∙ content_of token b.stack.current (B.is_only (W.elements c.path))
+      html_content-bare c.context c.path token
+      ∙ ap (λ x. M.is_html_content (B.adjusted_tag x (bare_path c.path)) token) w.alike.like.context
+      ∙ ap (λ t. M.is_html_content (if B.is_only (W.elements (bare_path c.path)) then bare_tag (codes "div") else t) token) top_is
+      ∙ content_of token b.stack.current (B.is_only (W.elements (bare_path c.path)))
 
   in_text : (token : B.Token) → M.dispatch token c ≡ S.in_table_text_step c token
   in_text token = cond-true _ _ _ (content token) ∙ ap (λ m. M.mode_step m c token) w.mode
@@ -181,7 +196,7 @@ module _ {b : P.Builder} {c : B.Builder} (w : Waits b c) where
         alike = record {
           sound = character_sound b x w.alike.sound;
           like = record {
-            path = more_path x ∙ l.path;
+            path = ap bare_path (more_path x) ∙ l.path;
             active = l.active;
             next = l.next;
             mode = l.mode;
@@ -246,7 +261,8 @@ module _ {b : P.Builder} {c : B.Builder} (h : Alike b c) (x : ℕ) (m : is_betwe
 
   text_in_table : S.is_text_in_table (B.current_tag c) ≡ true
   text_in_table =
-      ap (λ p. S.is_text_in_table (W.top p).tag) h.like.path
+      ap (λ (f : W.Frame). S.is_text_in_table f.tag) (top-bare c.path)
+      ∙ ap (λ p. S.is_text_in_table (W.top p).tag) h.like.path
       ∙ ap (λ v. v || T.is_template (tag_of b.stack.current.element.own)) (between_top b h.sound b.mode refl m)
 
   empties : M.dispatch (B.a_character x) c ≡ B.Again emptied
@@ -254,7 +270,8 @@ module _ {b : P.Builder} {c : B.Builder} (h : Alike b c) (x : ℕ) (m : is_betwe
 
   html_current : (token : B.Token) → M.is_html_content (B.adjusted_current_node emptied) token ≡ true
   html_current token =
-      ap₂ (λ y p. M.is_html_content (B.adjusted_tag y p) token) h.like.context h.like.path
+      html_content-bare c.context c.path token
+      ∙ ap₂ (λ y p. M.is_html_content (B.adjusted_tag y p) token) h.like.context h.like.path
       ∙ content_of token b.stack.current (B.is_only (W.elements (path_of (frames_of b.stack))))
 
   takes : M.dispatch (B.a_character x) emptied ≡ B.Done waiting
@@ -357,28 +374,28 @@ module _ (x n : ℕ) (after : P.Builder) where
         | inr z ↦ absurd (no_answer after (sym (cond-false _ _ _ z) ∙ other))
       ]
 
-token_taken : (b : P.Builder) (c : B.Builder) → Goes b c → (token : HtmlToken) (n : ℕ) (after : P.Builder) → R.of_token b token ≡ Some after →
-    Goes after (B.repeated (more 8 n) (M.dispatch (token_of token)) (B.Again c))
-token_taken b c (inl h) (Character x) n after eq = alike_character x n after b c h b.mode refl eq
-token_taken b c (inr w) (Character x) n after eq = waiting_character x n after b c w eq
-token_taken b c (inl h) (StartTag name attributes closes) n after eq =
+token_taken : (b : P.Builder) (c : B.Builder) → Goes b c → (token : HtmlToken) (m n : ℕ) (after : P.Builder) → R.of_token b token ≡ Some after →
+    Goes after (B.repeated (more 8 n) (M.dispatch (M.numbered m (token_of token))) (B.Again c))
+token_taken b c (inl h) (Character x) m n after eq = alike_character x n after b c h b.mode refl eq
+token_taken b c (inr w) (Character x) m n after eq = waiting_character x n after b c w eq
+token_taken b c (inl h) (StartTag name attributes closes) m n after eq =
     let own : HtmlTag = record { name = name; attributes = attributes } in
-    let token : B.Token = token_of (StartTag name attributes closes) in
-    inl (reaches_repeated 8 n (M.dispatch token) (B.Again c) after (again h token 7 after (a_start own closes after b c h 2 eq)))
-token_taken b c (inr w) (StartTag name attributes closes) n after eq =
+    let token : B.Token = M.numbered m (token_of (StartTag name attributes closes)) in
+    inl (reaches_repeated 8 n (M.dispatch token) (B.Again c) after (again h token 7 after (a_start own (Some m) closes after b c h 2 eq)))
+token_taken b c (inr w) (StartTag name attributes closes) m n after eq =
     let own : HtmlTag = record { name = name; attributes = attributes } in
-    let token : B.Token = token_of (StartTag name attributes closes) in
+    let token : B.Token = M.numbered m (token_of (StartTag name attributes closes)) in
     inl (reaches_repeated 8 n (M.dispatch token) (B.Again c) after
-    (after_flush w token refl 7 after (again w.alike token 6 after (a_start own closes after b (flushed w) w.alike 1 eq))))
-token_taken b c (inl h) (EndTag name) n after eq =
+    (after_flush w token refl 7 after (again w.alike token 6 after (a_start own (Some m) closes after b (flushed w) w.alike 1 eq))))
+token_taken b c (inl h) (EndTag name) m n after eq =
     let token : B.Token = token_of (EndTag name) in
     inl (reaches_repeated 8 n (M.dispatch token) (B.Again c) after (again h token 7 after (an_end name after b c h 4 eq)))
-token_taken b c (inr w) (EndTag name) n after eq =
+token_taken b c (inr w) (EndTag name) m n after eq =
     let token : B.Token = token_of (EndTag name) in
     inl (reaches_repeated 8 n (M.dispatch token) (B.Again c) after
     (after_flush w token refl 7 after (again w.alike token 6 after (an_end name after b (flushed w) w.alike 3 eq))))
-token_taken b c h (CommentToken bytes) n after eq = absurd (no_answer after eq)
-token_taken b c h DoctypeToken n after eq = absurd (no_answer after eq)
+token_taken b c h (CommentToken bytes) m n after eq = absurd (no_answer after eq)
+token_taken b c h DoctypeToken m n after eq = absurd (no_answer after eq)
 
 -- Tokens
 
@@ -395,12 +412,12 @@ enough_steps c step o = ap (λ n. B.repeated n step o) (sym (enough (2 * length 
 token_goes : (b : P.Builder) (c : B.Builder) → Goes b c → (token : HtmlToken) (after : P.Builder) → R.step b token ≡ Some after → Goes after (M.token_done c (token_of token))
 token_goes b c h token after eq =
     let same : (c.skips && M.is_line_feed (token_of token)) ≡ (b.skips && R.is_line_feed token) = ap₂ (λ v w. v && w) (skips_is h) (line_same token) in
-    count_token (elim (cases_Bool (b.skips && R.is_line_feed token)) [
+    started (M.starts_behind c.starts (token_of token)) (count_token (elim (cases_Bool (b.skips && R.is_line_feed token)) [
       | inl y ↦ subst (Goes after) (sym (cond-true _ _ _ (same ∙ y)))
           (subst (λ d. Goes d (M.calm c)) (some_same (sym (cond-true _ _ _ y) ∙ eq)) (calm h))
-      | inr z ↦ subst (Goes after) (sym (cond-false _ _ _ (same ∙ z) ∙ enough_steps c (M.dispatch (token_of token)) (B.Again (M.calm c))))
-          (token_taken (R.calm b) (M.calm c) (calm h) token (2 * length c.path) after (sym (cond-false _ _ _ z) ∙ eq))
-    ])
+      | inr z ↦ subst (Goes after) (sym (cond-false _ _ _ (same ∙ z) ∙ enough_steps c (M.dispatch (M.numbered c.starts (token_of token))) (B.Again (M.calm c))))
+          (token_taken (R.calm b) (M.calm c) (calm h) token c.starts (2 * length c.path) after (sym (cond-false _ _ _ z) ∙ eq))
+    ]))
 
 tokens_go : (tokens : List HtmlToken) (b : P.Builder) (c : B.Builder) → Goes b c → (after : P.Builder) → R.run (Some b) tokens ≡ Some after → Goes after (M.tokens_done c (map token_of tokens))
 tokens_go [] b c h after eq = subst (λ d. Goes d c) (some_same eq) h
@@ -451,7 +468,8 @@ no_template f (o ∷ os) k =
 
 ended : {b : P.Builder} {c : B.Builder} → Alike b c → Body.file_ended c ≡ B.Done c
 ended {b = b} {c = c} h =
-    cond-false _ _ _ (ap (W.has_open T.is_template) h.like.path
+    cond-false _ _ _ (open-bare (W.has_tag T.is_template) W.no_frame (W.has_tag T.is_template) W.no_frame (λ _. refl) (λ _. refl) c.path
+    ∙ ap (W.has_open T.is_template) h.like.path
     ∙ ap (W.within (W.has_tag T.is_template) W.no_frame) (elements_are (frames_of b.stack))
     ∙ no_template b.stack.current b.stack.others h.sound.stack)
 
@@ -478,11 +496,14 @@ counted_alike b c h = by_count (nat_lt c.excess (M.excess_of (record c { tokens 
     by_count true = record { sound = h.sound; like = O.counting h.like c.added (suc c.tokens) (M.excess_of (record c { tokens = suc c.tokens })) }
     by_count false = record { sound = h.sound; like = O.counting h.like c.added (suc c.tokens) c.excess }
 
+started_alike : (b : P.Builder) (c : B.Builder) (n : ℕ) → Alike b c → Alike b (record c { starts = n })
+started_alike b c n h = record { sound = h.sound; like = O.numbering h.like n }
+
 pub file_goes : (b : P.Builder) (c : B.Builder) → Goes b c → Alike (R.calm b) (M.token_done c B.end_of_file)
 file_goes b c h =
     let idle : (v : Bool) → (v && false) ≡ false = λ v. by_value v in
-    counted_alike (R.calm b) _ (subst (Alike (R.calm b)) (sym (cond-false _ _ _ (idle c.skips) ∙ enough_steps c (M.dispatch B.end_of_file) (B.Again (M.calm c))))
-    (file_reaches (R.calm b) (M.calm c) (calm h) (2 * length c.path)))
+    started_alike (R.calm b) _ c.starts (counted_alike (R.calm b) _ (subst (Alike (R.calm b)) (sym (cond-false _ _ _ (idle c.skips) ∙ enough_steps c (M.dispatch B.end_of_file) (B.Again (M.calm c))))
+    (file_reaches (R.calm b) (M.calm c) (calm h) (2 * length c.path))))
   where
     by_value : (v : Bool) → (v && false) ≡ false
     by_value true = refl
@@ -509,20 +530,23 @@ root_from g f (o ∷ os) h =
     ap (λ p. H.trees_in (W.top p)) (pops_on off_root g f o o os os (ap not (eq_suc f.element.number 0 ∙ h.0)))
     ∙ root_from o (P.closed_into o f) os (root_around o f os h.1)
 
-pub trees_are : (b : P.Builder) (c : B.Builder) → Like b c → Rooted b.stack.current b.stack.others → H.children_of c ≡ whole (R.trees_of b)
+pub trees_are : (b : P.Builder) (c : B.Builder) → Like b c → Rooted b.stack.current b.stack.others → without_numbers (H.children_of c) ≡ whole (R.trees_of b)
 trees_are b c h r =
-    ap (λ p. H.trees_in (W.top (W.popped_to (W.has_number 1) p))) h.path ∙ root_from b.stack.current b.stack.current b.stack.others r
+    trees-bare (W.top (W.popped_to (W.has_number 1) c.path))
+    ∙ ap H.trees_in (top-bare (W.popped_to (W.has_number 1) c.path))
+    ∙ ap (λ p. H.trees_in (W.top p)) (popped_to-bare (W.has_number 1) (W.has_number 1) (λ _. refl) c.path)
+    ∙ ap (λ p. H.trees_in (W.top (W.popped_to (W.has_number 1) p))) h.path ∙ root_from b.stack.current b.stack.current b.stack.others r
 
 -- where the partial builder has an outcome, the whole one has the same trees
 pub partial_is_whole : (v : Bool) (tokens : List HtmlToken) (forest : HtmlForest) → R.html_trees_where v tokens ≡ Some forest →
-    H.fragment_of_tokens (record H.standard { counts_search = v }) (H.context_of (bare_tag (codes "div"))) tokens ≡ whole forest
+    without_numbers (H.fragment_of_tokens (record H.standard { counts_search = v }) (H.context_of (bare_tag (codes "div"))) tokens) ≡ whole forest
 partial_is_whole v tokens forest eq = by_run (R.run (Some (R.fragment v)) tokens) refl (Roots.run tokens (Some (R.fragment v)) (refl, refl)) eq
   where
     forest_same : {x y : HtmlForest} → Some x ≡ Some y → x ≡ y
     forest_same e = cc
 
     by_run : (o : Option P.Builder) → R.run (Some (R.fragment v)) tokens ≡ o → MayHaveRoot o → option_map R.trees_of o ≡ Some forest →
-        H.fragment_of_tokens (record H.standard { counts_search = v }) (H.context_of (bare_tag (codes "div"))) tokens ≡ whole forest
+        without_numbers (H.fragment_of_tokens (record H.standard { counts_search = v }) (H.context_of (bare_tag (codes "div"))) tokens) ≡ whole forest
     by_run None e r k = absurd (true≢false (sym (ap is_forest k)))
       where
         is_forest : Option HtmlForest → Bool

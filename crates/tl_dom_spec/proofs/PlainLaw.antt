@@ -1,5 +1,5 @@
 -- Where the names of start tags are plain it is no matter whether they drive the tokenizer, or the builder does.
-use Rattle.std.proofs.Common.{Bool, List, [], ap, false, inl, inr, map, refl, sym, subst, true, true≢false, ℕ, ◌++◌, ◌==◌, ◌∙◌, ◌∷◌, ◌≡◌, ◌⊎◌, ◌&&◌, if◌then◌else◌}
+use Rattle.std.proofs.Common.{Some, Bool, List, [], ap, false, inl, inr, map, refl, sym, subst, true, true≢false, ℕ, ◌++◌, ◌==◌, ◌∙◌, ◌∷◌, ◌≡◌, ◌⊎◌, ◌&&◌, if◌then◌else◌}
 use Rattle.std.specs.Prelude.{⊤, not}
 use Rattle.std.proofs.lemmas.Bool.{and_parts, true_from_ne_false}
 use Rattle.tl_html_spec.specs.HtmlTokenizer.{Character, CommentToken, DoctypeToken, EndTag, HtmlAttribute, StartTag, State, data_state, html_tokens, tokens_in_page, without_mark, with_feeds, tokens_from}
@@ -9,7 +9,7 @@ use Rattle.tl_html_spec.proofs.Named.{names_read}
 use Rattle.tl_dom_spec.specs.Tags.{Tag, html_tag, is_html}
 use Rattle.tl_dom_spec.specs.Groups.{group}
 use Rattle.tl_dom_spec.specs.Builder.{Builder, Flags, adjusted_current_node}
-use Rattle.tl_dom_spec.specs.Dispatcher.{token_done}
+use Rattle.tl_dom_spec.specs.Dispatcher.{numbered, token_done}
 use Rattle.tl_dom_spec.specs.Driver.{builder, emitted_token, token_of}
 use Rattle.tl_dom_spec.specs.HtmlTree.{Context, context_state, fragment_of_tokens, fragment_start, html_fragment_by, html_tree_by, page_start, tree_of_tokens}
 use Rattle.tl_dom_spec.specs.Lawful.{HaveHtmlDoctypes, HavePlainNames, driven_by_names, fragment_built, is_plain_name, page_built, tokens_of_fragment, tokens_of_page}
@@ -55,8 +55,9 @@ home_again : (own : Tag) → is_html own ≡ false → (is_html own ≡ true) �
 home_again own e (inl h) = true≢false (sym h ∙ e)
 home_again own e (inr h) = true≢false (sym h ∙ e)
 
-plain_start : (flags : Flags) (name : List ℕ) (attributes : List HtmlAttribute) → is_plain_name flags name ≡ true → Starts (at_home flags) (group name) (html_tag name attributes)
-plain_start flags name attributes p = record {
+plain_start : (flags : Flags) (n : ℕ) (name : List ℕ) (attributes : List HtmlAttribute) → is_plain_name flags name ≡ true →
+    Starts (at_home flags) (group name) (record (html_tag name attributes) { source = Some n })
+plain_start flags n name attributes p = record {
   opens = λ _. refl;
   alone = tt;
   image = λ _. tt;
@@ -82,13 +83,13 @@ abbrev IsPlain : Flags → Emission → Type 0
 IsPlain flags (plain (StartTag name attributes closes)) = is_plain_name flags name ≡ true
 IsPlain flags e = ⊤
 
-plain_emission : (flags : Flags) (e : Emission) → IsPlain flags e → Allows (at_home flags) (emitted_token e)
-plain_emission flags (plain (Character c)) p = tt
-plain_emission flags (plain (StartTag name attributes closes)) p = plain_start flags name attributes p
-plain_emission flags (plain (EndTag name)) p = tt
-plain_emission flags (plain (CommentToken bytes)) p = tt
-plain_emission flags (plain DoctypeToken) p = tt
-plain_emission flags (doctype_of own) p = tt
+plain_emission : (flags : Flags) (n : ℕ) (e : Emission) → IsPlain flags e → Allows (at_home flags) (numbered n (emitted_token e))
+plain_emission flags n (plain (Character c)) p = tt
+plain_emission flags n (plain (StartTag name attributes closes)) p = plain_start flags n name attributes p
+plain_emission flags n (plain (EndTag name)) p = tt
+plain_emission flags n (plain (CommentToken bytes)) p = tt
+plain_emission flags n (plain DoctypeToken) p = tt
+plain_emission flags n (doctype_of own) p = tt
 
 -- so names set the data state too
 names_set : (flags : Flags) (m : Named) (e : Emission) → IsPlain flags e → (by_name.take m e).sets ≡ data_state
@@ -101,7 +102,7 @@ names_set flags m (doctype_of own) p = refl
 
 taken-home : (flags : Flags) (b : Builder) (es : List Emission) → Each (IsPlain flags) es → Holds (at_home flags) b → Holds (at_home flags) (taken builder b es)
 taken-home flags b [] p h = h
-taken-home flags b (e ∷ es) p h = taken-home flags (token_done b (emitted_token e)) es p.1 (token-Holds (at_home flags) b (emitted_token e) (plain_emission flags e p.0) h)
+taken-home flags b (e ∷ es) p h = taken-home flags (token_done b (emitted_token e)) es p.1 (token-Holds (at_home flags) b (emitted_token e) (plain_emission flags b.starts e p.0) h)
 
 taken-names : (flags : Flags) (m : Named) (es : List Emission) → Each (IsPlain flags) es → m.sets ≡ data_state → (taken by_name m es).sets ≡ data_state
 taken-names flags m [] p h = h

@@ -16,7 +16,7 @@ use Rattle.tl_dom_spec.specs.Lawful.{EachCharacter}
 use Rattle.tl_dom_spec.specs.Runs.{Kind, count_tokens, goes_in, html_run, insert_text, is_of_run, kind_of, null, plain, run_dispatched, run_taken, table_run, takes_any, white, with_replacements}
 use Rattle.tl_dom_spec.proofs.RunsStarts.{AtRest, BodyRest, Calm, IsKind, IsWhite, ModeRest, Quiet, TableRest, content, no_white, rebuilt_same, reopened_rebuilt, seen}
 use Rattle.tl_dom_spec.proofs.RunsFirst.{Counted, counted, first_rest}
-use Rattle.tl_dom_spec.proofs.RunsNext.{count_same, of_run_by, run_counted, run_Counted, run_rest, run_takes, split, not_null}
+use Rattle.tl_dom_spec.proofs.RunsNext.{count_same, not_null, of_run_by, run_Counted, run_counted, run_rest, run_starts, run_takes, split}
 
 -- by the rules of "in body"
 
@@ -247,11 +247,12 @@ token_next : (k : Kind) (c : ℕ) (b : Builder) → is_of_run b.mode k c ≡ tru
 token_next k c b o r n =
     let steps : Builder = repeated (bound b) (dispatch (a_character c)) (Again (calm b)) in
     let x : Builder = run_dispatched (c ∷ []) b in
-    ap count_token
+    ap (λ (z : Builder). record (count_token z) { starts = b.starts })
     (cond-false (b.skips && (c == 10)) (calm b) steps (and_left b.skips (c == 10) r.0.0)
     ∙ ap (λ z. repeated (bound b) (dispatch (a_character c)) (Again z)) (calm_same b r.0)
     ∙ ended (bound b) c b x (omega arith) (dispatch_next k c b o r))
-    ∙ count_same x (run_Counted (c ∷ []) b n)
+    ∙ ap (λ (z : Builder). record z { starts = b.starts }) (count_same x (run_Counted (c ∷ []) b n))
+    ∙ ap (λ (m : ℕ). record (count_tokens 1 x) { starts = m }) (sym (run_starts (c ∷ []) b))
 
 -- and all of them
 

@@ -139,6 +139,28 @@ split d run b = elim (cases_Bool (content b)) [
   | inr f ↦ foreign_split d run b f
 ]
 
+-- no start tag is counted
+
+text_starts : (bytes : List ℕ) (b : Builder) → (insert_text bytes b).starts ≡ b.starts
+text_starts [] b = refl
+text_starts (c ∷ bytes) b = refl
+
+table_starts : (bytes : List ℕ) (b : Builder) → (table_run bytes b).starts ≡ b.starts
+table_starts bytes b =
+    cond_both (is_text_in_table (current_tag b)) (waits b bytes) (insert_text bytes b) (λ x. x.starts ≡ b.starts) (λ _. refl) (λ _. text_starts bytes b)
+
+html_starts : (m : Mode) (bytes : List ℕ) (b : Builder) → (html_run m bytes b).starts ≡ b.starts
+html_starts in_table bytes b = table_starts bytes b
+html_starts in_table_text bytes b = refl
+html_starts in_table_body bytes b = table_starts bytes b
+html_starts in_row bytes b = table_starts bytes b
+html_starts _ bytes b = text_starts bytes b
+
+pub run_starts : (run : List ℕ) (b : Builder) → (run_dispatched run b).starts ≡ b.starts
+run_starts run b =
+    cond_both (content b) (html_run b.mode (filter (goes_in b.mode) run) b) (insert_text (with_replacements run) b) (λ x. x.starts ≡ b.starts)
+    (λ _. html_starts b.mode (filter (goes_in b.mode) run) b) (λ _. text_starts (with_replacements run) b)
+
 -- it is no matter how many tokens were counted
 
 either_counted : (v : Bool) (n : ℕ) (x y : Builder) → (if v then count_tokens n x else count_tokens n y) ≡ count_tokens n (if v then x else y)

@@ -9,7 +9,7 @@ use Rattle.tl_dom_spec.specs.Adjusted.{foreign_tag}
 use Rattle.tl_dom_spec.specs.Dispatcher.{is_svg_start}
 use Rattle.tl_dom_spec.specs.HtmlForest.{HtmlForest}
 use Rattle.tl_dom_spec.specs.HtmlTree.{Context, html_fragment_by, html_tree_by}
-use Rattle.tl_dom_spec.specs.Lawful.{ComeFrom, EachCharacter, IsIn, IsTagOf, adds_attributes, adjusted, as_image, as_math, as_svg, fragment_built, page_built, put_in, started, tokens_of_fragment, tokens_of_page, with_added}
+use Rattle.tl_dom_spec.specs.Lawful.{ComeFrom, EachCharacter, IsIn, IsTagOf, adds_attributes, adjusted, all_numbered, as_image, as_math, as_svg, fragment_built, page_built, put_in, started, tokens_of_fragment, tokens_of_page, with_added}
 use Rattle.tl_dom_spec.proofs.Allowed.{Allowed, Each, IsText}
 use Rattle.tl_dom_spec.proofs.HeadRules.{Allows, is_image, is_math_start}
 use Rattle.tl_dom_spec.proofs.TreesFollow.{Follows, Owned, fragment-Follows, fragment_is, page-Follows, page_is}
@@ -103,18 +103,18 @@ sources_of tokens trees f = record {
   doctypes = f.doctypes;
 }
 
-pub built_sources : (flags : Flags) (tokens : List Token) → ComeFrom tokens (page_built flags tokens).trees
-built_sources flags tokens = sources_of tokens (page_built flags tokens).trees (page-Follows (from tokens) flags tokens tt tt (tokens_from tokens))
+pub built_sources : (flags : Flags) (tokens : List Token) → ComeFrom (all_numbered 0 tokens) (page_built flags tokens).trees
+built_sources flags tokens = sources_of (all_numbered 0 tokens) (page_built flags tokens).trees (page-Follows (from (all_numbered 0 tokens)) flags tokens tt tt (tokens_from (all_numbered 0 tokens)))
 
-pub built_fragment_sources : (flags : Flags) (context : Context) (tokens : List Token) → ComeFrom tokens (fragment_built flags context tokens)
+pub built_fragment_sources : (flags : Flags) (context : Context) (tokens : List Token) → ComeFrom (all_numbered 0 tokens) (fragment_built flags context tokens)
 built_fragment_sources flags context tokens =
-    sources_of tokens (fragment_built flags context tokens) (fragment-Follows (from tokens) flags context tokens tt tt tt (tokens_from tokens))
+    sources_of (all_numbered 0 tokens) (fragment_built flags context tokens) (fragment-Follows (from (all_numbered 0 tokens)) flags context tokens tt tt tt (tokens_from (all_numbered 0 tokens)))
 
-pub page_sources : (flags : Flags) (page : List ℕ) → ComeFrom (tokens_of_page flags page) (html_tree_by flags page).trees
+pub page_sources : (flags : Flags) (page : List ℕ) → ComeFrom (all_numbered 0 (tokens_of_page flags page)) (html_tree_by flags page).trees
 page_sources flags page =
-    subst (λ d. ComeFrom (tokens_of_page flags page) d.trees) (sym (page_is flags page)) (built_sources flags (tokens_of_page flags page))
+    subst (λ d. ComeFrom (all_numbered 0 (tokens_of_page flags page)) d.trees) (sym (page_is flags page)) (built_sources flags (tokens_of_page flags page))
 
-pub fragment_sources : (flags : Flags) (context : Context) (bytes : List ℕ) → ComeFrom (tokens_of_fragment flags context bytes) (html_fragment_by flags context bytes)
+pub fragment_sources : (flags : Flags) (context : Context) (bytes : List ℕ) → ComeFrom (all_numbered 0 (tokens_of_fragment flags context bytes)) (html_fragment_by flags context bytes)
 fragment_sources flags context bytes =
-    subst (ComeFrom (tokens_of_fragment flags context bytes)) (sym (fragment_is flags context bytes))
+    subst (ComeFrom (all_numbered 0 (tokens_of_fragment flags context bytes))) (sym (fragment_is flags context bytes))
     (built_fragment_sources flags context (tokens_of_fragment flags context bytes))

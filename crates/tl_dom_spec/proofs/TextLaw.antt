@@ -7,7 +7,7 @@ use Rattle.tl_dom_spec.specs.Groups.{Group}
 use Rattle.tl_dom_spec.specs.Builder.{Flags, Token, a_character, a_comment, a_doctype, a_start, an_end, end_of_file}
 use Rattle.tl_dom_spec.specs.HtmlForest.{HtmlForest, comment, doctype, element, no_trees, text}
 use Rattle.tl_dom_spec.specs.HtmlTree.{Context, html_fragment_by, html_tree_by}
-use Rattle.tl_dom_spec.specs.Lawful.{AreTexts, EachElement, EachText, fragment_built, page_built, tokens_of_fragment, tokens_of_page}
+use Rattle.tl_dom_spec.specs.Lawful.{AreTexts, EachElement, EachText, all_numbered, fragment_built, page_built, tokens_of_fragment, tokens_of_page}
 use Rattle.tl_dom_spec.proofs.Allowed.{Allowed, Each, IsText}
 use Rattle.tl_dom_spec.proofs.HeadRules.{Allows, Starts}
 use Rattle.tl_dom_spec.proofs.TreesFollow.{Follows, fragment-Follows, fragment_is, page-Follows, page_is}
@@ -91,11 +91,11 @@ pub texts_of : (trees : HtmlForest) → Follows anything trees → AreTexts tree
 texts_of trees f = (texts-weaken (IsText anything) IsSome trees (λ bytes t. t.0 tt) f.texts, f.apart tt)
 
 pub built_texts : (flags : Flags) (tokens : List Token) → AreTexts (page_built flags tokens).trees
-built_texts flags tokens = texts_of (page_built flags tokens).trees (page-Follows anything flags tokens tt tt (any_tokens tokens))
+built_texts flags tokens = texts_of (page_built flags tokens).trees (page-Follows anything flags tokens tt tt (any_tokens (all_numbered 0 tokens)))
 
 pub built_fragment_texts : (flags : Flags) (context : Context) (tokens : List Token) → AreTexts (fragment_built flags context tokens)
 built_fragment_texts flags context tokens =
-    texts_of (fragment_built flags context tokens) (fragment-Follows anything flags context tokens tt tt tt (any_tokens tokens))
+    texts_of (fragment_built flags context tokens) (fragment-Follows anything flags context tokens tt tt tt (any_tokens (all_numbered 0 tokens)))
 
 pub page_texts : (flags : Flags) (page : List ℕ) → AreTexts (html_tree_by flags page).trees
 page_texts flags page =

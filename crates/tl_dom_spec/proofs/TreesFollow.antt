@@ -11,7 +11,7 @@ use Rattle.tl_dom_spec.specs.Dispatcher.{token_done, tokens_done}
 use Rattle.tl_dom_spec.specs.Driver.{builder, emitted_token}
 use Rattle.tl_dom_spec.specs.HtmlForest.{HtmlForest, before, comment, doctype, element, no_trees, text}
 use Rattle.tl_dom_spec.specs.HtmlTree.{Context, any_frame, children_of, context_state, document_of, fragment_start, html_fragment_by, html_tree_by, page_start, trees_in}
-use Rattle.tl_dom_spec.specs.Lawful.{AreApart, EachComment, EachDoctype, EachElement, EachText, begins_with_text, fragment_built, page_built, tokens_of_fragment, tokens_of_page}
+use Rattle.tl_dom_spec.specs.Lawful.{AreApart, EachComment, EachDoctype, EachElement, EachText, all_numbered, begins_with_text, fragment_built, page_built, tokens_of_fragment, tokens_of_page}
 use Rattle.tl_dom_spec.proofs.Allowed.{Allowed, Each, Good, IsText, ends_with_text, joined-Good}
 use Rattle.tl_dom_spec.proofs.Kept.{Holds}
 use Rattle.tl_dom_spec.proofs.HeadRules.{Allows}
@@ -83,12 +83,12 @@ children-Follows R b h =
 
 -- of tokens
 
-pub page-Follows : (R : Allowed) (flags : Flags) (tokens : List Token) → R.Scripts flags.is_scripting → R.Exceeds 0 → Each (Allows R) tokens → Follows R (page_built flags tokens).trees
+pub page-Follows : (R : Allowed) (flags : Flags) (tokens : List Token) → R.Scripts flags.is_scripting → R.Exceeds 0 → Each (Allows R) (all_numbered 0 tokens) → Follows R (page_built flags tokens).trees
 page-Follows R flags tokens s x k =
     document-Follows R (token_done (tokens_done (page_start flags) tokens) end_of_file)
     (token-Holds R (tokens_done (page_start flags) tokens) end_of_file tt (tokens-Holds R (page_start flags) tokens k (page_start-Holds R flags s x)))
 
-pub fragment-Follows : (R : Allowed) (flags : Flags) (context : Context) (tokens : List Token) → R.Scripts flags.is_scripting → R.Exceeds 0 → R.Around context.tag → Each (Allows R) tokens → Follows R (fragment_built flags context tokens)
+pub fragment-Follows : (R : Allowed) (flags : Flags) (context : Context) (tokens : List Token) → R.Scripts flags.is_scripting → R.Exceeds 0 → R.Around context.tag → Each (Allows R) (all_numbered 0 tokens) → Follows R (fragment_built flags context tokens)
 fragment-Follows R flags context tokens s x a k =
     children-Follows R (token_done (tokens_done (fragment_start flags context) tokens) end_of_file)
     (token-Holds R (tokens_done (fragment_start flags context) tokens) end_of_file tt (tokens-Holds R (fragment_start flags context) tokens k (fragment_start-Holds R flags context s x a)))

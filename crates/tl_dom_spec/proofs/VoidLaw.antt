@@ -1,5 +1,5 @@
 -- Nothing stands below a void element.
-use Rattle.std.proofs.Common.{List, [], codes, false, inl, inr, map, refl, subst, sym, true, true≢false, ℕ, ◌∙◌, ◌∷◌, ◌≡◌}
+use Rattle.std.proofs.Common.{List, [], codes, false, inl, inr, map, refl, subst, sym, true, true≢false, ℕ, ◌∙◌, ◌∷◌, ◌≡◌, Some, suc}
 use Rattle.std.specs.Prelude.{⊤}
 use Rattle.std.proofs.lemmas.Bool.{and_left, and_parts, and_right, cases_Bool}
 use Rattle.tl_html_spec.specs.Driven.{Emission, doctype_of, driven_tokens, driving, in_state, plain}
@@ -12,12 +12,13 @@ use Rattle.tl_dom_spec.specs.Adjusted.{foreign_name}
 use Rattle.tl_dom_spec.specs.Driver.{builder, emitted_token, token_of}
 use Rattle.tl_dom_spec.specs.HtmlForest.{HtmlForest, no_trees}
 use Rattle.tl_dom_spec.specs.HtmlTree.{Context, context_state, fragment_of_tokens, fragment_start, html_fragment_by, html_tree_by, page_start, tree_of_tokens}
-use Rattle.tl_dom_spec.specs.Lawful.{AreVoidEmpty, void_names, fragment_built, is_void, page_built, tokens_of_fragment, tokens_of_page}
+use Rattle.tl_dom_spec.specs.Lawful.{AreVoidEmpty, all_numbered, fragment_built, is_void, page_built, tokens_of_fragment, tokens_of_page, void_names}
 use Rattle.tl_dom_spec.proofs.Words.{any_word}
 use Rattle.tl_dom_spec.proofs.Allowed.{Allowed, Each}
 use Rattle.tl_dom_spec.proofs.HeadRules.{Allows, Starts, is_alone}
 use Rattle.tl_dom_spec.proofs.TreesFollow.{Follows, Owned, fragment-Follows, fragment_is, page-Follows, page_is}
 use Rattle.tl_dom_spec.proofs.TextLaw.{elements-weaken}
+use Rattle.tl_dom_spec.specs.Dispatcher.{numbered, starts_behind}
 
 abbrev IsAlone : List ℕ → Type 0
 IsAlone name = is_alone (group name) ≡ true
@@ -72,8 +73,8 @@ voids = record {
   data_read = tt;
 }
 
-pub void_start : (name : List ℕ) (attributes : List HtmlAttribute) → Starts voids (group name) (html_tag name attributes)
-void_start name attributes = record {
+pub void_start : (n : ℕ) (name : List ℕ) (attributes : List HtmlAttribute) → Starts voids (group name) (record (html_tag name attributes) { source = Some n })
+void_start n name attributes = record {
   opens = λ a. not_void name a;
   alone = tt;
   image = λ _. tt;
@@ -87,24 +88,24 @@ void_start name attributes = record {
   listed = λ y _. absurd y;
 }
 
-pub void_token : (token : HtmlToken) → Allows voids (token_of token)
-void_token (Character c) = tt
-void_token (StartTag name attributes closes) = void_start name attributes
-void_token (EndTag name) = tt
-void_token (CommentToken bytes) = tt
-void_token DoctypeToken = tt
+pub void_token : (n : ℕ) (token : HtmlToken) → Allows voids (numbered n (token_of token))
+void_token n (Character c) = tt
+void_token n (StartTag name attributes closes) = void_start n name attributes
+void_token n (EndTag name) = tt
+void_token n (CommentToken bytes) = tt
+void_token n DoctypeToken = tt
 
-pub void_tokens : (tokens : List HtmlToken) → Each (Allows voids) (map token_of tokens)
-void_tokens [] = tt
-void_tokens (token ∷ tokens) = (void_token token, void_tokens tokens)
+pub void_tokens : (n : ℕ) (tokens : List HtmlToken) → Each (Allows voids) (all_numbered n (map token_of tokens))
+void_tokens n [] = tt
+void_tokens n (token ∷ tokens) = (void_token n token, void_tokens (starts_behind n (token_of token)) tokens)
 
-void_emission : (e : Emission) → Allows voids (emitted_token e)
-void_emission (plain token) = void_token token
-void_emission (doctype_of own) = tt
+void_emission : (n : ℕ) (e : Emission) → Allows voids (numbered n (emitted_token e))
+void_emission n (plain token) = void_token n token
+void_emission n (doctype_of own) = tt
 
-void_emissions : (emissions : List Emission) → Each (Allows voids) (map emitted_token emissions)
-void_emissions [] = tt
-void_emissions (e ∷ emissions) = (void_emission e, void_emissions emissions)
+void_emissions : (n : ℕ) (emissions : List Emission) → Each (Allows voids) (all_numbered n (map emitted_token emissions))
+void_emissions n [] = tt
+void_emissions n (e ∷ emissions) = (void_emission n e, void_emissions (starts_behind n (emitted_token e)) emissions)
 
 nothing_below : (tag : Tag) (below : HtmlForest) → Owned voids tag below → is_void tag ≡ true → below ≡ no_trees
 nothing_below tag below (inl o) v = absurd (true≢false (sym v ∙ o))
@@ -114,21 +115,21 @@ pub voids_of : (trees : HtmlForest) → Follows voids trees → AreVoidEmpty tre
 voids_of trees f = elements-weaken (Owned voids) (λ tag below. is_void tag ≡ true → below ≡ no_trees) trees nothing_below f.elements
 
 pub built_voids : (flags : Flags) (tokens : List HtmlToken) → AreVoidEmpty (tree_of_tokens flags tokens).trees
-built_voids flags tokens = voids_of (tree_of_tokens flags tokens).trees (page-Follows voids flags (map token_of tokens) tt tt (void_tokens tokens))
+built_voids flags tokens = voids_of (tree_of_tokens flags tokens).trees (page-Follows voids flags (map token_of tokens) tt tt (void_tokens 0 tokens))
 
 pub built_fragment_voids : (flags : Flags) (context : Context) (tokens : List HtmlToken) → AreVoidEmpty (fragment_of_tokens flags context tokens)
 built_fragment_voids flags context tokens =
-    voids_of (fragment_of_tokens flags context tokens) (fragment-Follows voids flags context (map token_of tokens) tt tt tt (void_tokens tokens))
+    voids_of (fragment_of_tokens flags context tokens) (fragment-Follows voids flags context (map token_of tokens) tt tt tt (void_tokens 0 tokens))
 
 pub page_voids : (flags : Flags) (page : List ℕ) → AreVoidEmpty (html_tree_by flags page).trees
 page_voids flags page =
     let emissions : List Emission = driven_tokens builder (driving (page_start flags) (in_state data_state)) (without_mark page) in
     subst (λ d. AreVoidEmpty d.trees) (sym (page_is flags page))
-    (voids_of (page_built flags (tokens_of_page flags page)).trees (page-Follows voids flags (tokens_of_page flags page) tt tt (void_emissions emissions)))
+    (voids_of (page_built flags (tokens_of_page flags page)).trees (page-Follows voids flags (tokens_of_page flags page) tt tt (void_emissions 0 emissions)))
 
 pub fragment_voids : (flags : Flags) (context : Context) (bytes : List ℕ) → AreVoidEmpty (html_fragment_by flags context bytes)
 fragment_voids flags context bytes =
     let emissions : List Emission = driven_tokens builder (driving (fragment_start flags context) (in_state (context_state flags context.tag))) bytes in
     subst AreVoidEmpty (sym (fragment_is flags context bytes))
     (voids_of (fragment_built flags context (tokens_of_fragment flags context bytes))
-    (fragment-Follows voids flags context (tokens_of_fragment flags context bytes) tt tt tt (void_emissions emissions)))
+    (fragment-Follows voids flags context (tokens_of_fragment flags context bytes) tt tt tt (void_emissions 0 emissions)))

@@ -52,6 +52,7 @@ foreign_tag space t = record {
   space = space;
   name = t.name;
   attributes = map (foreign_attribute space) t.attributes;
+  source = t.source;
 }
 
 abbrev pub insert_foreign_element : Namespace → Tag → Bool → Builder → Builder

@@ -84,6 +84,8 @@ pub record Builder : Type 0 where
   pub added : ℕ
   -- by how many these were more than four for each token, where that was most
   pub excess : ℕ
+  -- how many start tags were taken: the number of the next one
+  pub starts : ℕ
   pub flags : Flags
 
 -- a token is done with, or is reprocessed

@@ -1,6 +1,6 @@
 -- The tree construction dispatcher (13.2.6), and foreign content (13.2.6.5).
 use Rattle.std.specs.Char.{is_ascii_whitespace, to_ascii_lowercase}
-use Rattle.std.specs.Prelude.{Bool, List, [], codes, false, if◌then◌else◌, length, map, nat_lt, not, suc, true, ℕ, ◌&&◌, ◌*◌, ◌+◌, ◌-◌, ◌==◌, ◌||◌, ◌∷◌}
+use Rattle.std.specs.Prelude.{Bool, List, Some, [], codes, false, if◌then◌else◌, length, map, nat_lt, not, suc, true, ℕ, ◌&&◌, ◌*◌, ◌+◌, ◌-◌, ◌==◌, ◌||◌, ◌∷◌}
 use Rattle.std.specs.Str.{bytes_eq}
 use Rattle.tl_html_spec.specs.Balanced.{is_one_of}
 use Rattle.tl_html_spec.specs.HtmlTokenizer.{data_state, replacement}
@@ -154,11 +154,23 @@ count_token b =
     if nat_lt taken.excess (excess_of taken) then record taken { excess = excess_of taken }
     else taken
 
+-- a start tag with its number among those of the page
+abbrev pub numbered : ℕ → Token → Token
+numbered n (a_start g t closes) = a_start g (record t { source = Some n }) closes
+numbered n token = token
+
+-- the number of the next start tag behind a token
+abbrev pub starts_behind : ℕ → Token → ℕ
+starts_behind n (a_start g t closes) = suc n
+starts_behind n token = n
+
 abbrev pub token_done : Builder → Token → Builder
 token_done b token =
-    count_token
+    record (count_token
     (if b.skips && is_line_feed token then calm b
-    else repeated (bound b) (dispatch token) (Again (calm b)))
+    else repeated (bound b) (dispatch (numbered b.starts token)) (Again (calm b)))) {
+      starts = starts_behind b.starts token;
+    }
 
 abbrev pub tokens_done : Builder → List Token → Builder
 tokens_done b [] = b

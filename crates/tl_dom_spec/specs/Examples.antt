@@ -94,7 +94,7 @@ in_quirks bytes = in_body_by standard (codes "<body>" ++ codes bytes)
 
 abbrev pub context_named : Namespace → String → Context
 context_named space name =
-    context_of (record { space = space; name = codes name; attributes = [] })
+    context_of (record { space = space; name = codes name; attributes = []; source = None })
 
 abbrev pub inside_by : Flags → Context → String → List ℕ
 inside_by flags context bytes = shown (html_fragment_by flags context (codes bytes))
@@ -156,3 +156,19 @@ run_from b (c ∷ run) = run_taken run (token_done b (a_character c))
 
 abbrev pub at_once : String → String → List ℕ
 at_once front run = ended (run_from (read_front front) (codes run))
+
+-- the numbers of the start tags that elements have, in the order of the page
+abbrev pub numbers_of : HtmlForest → List (Option ℕ)
+numbers_of no_trees = []
+numbers_of (text bytes more) = numbers_of more
+numbers_of (comment bytes more) = numbers_of more
+numbers_of (doctype own more) = numbers_of more
+numbers_of (element tag below more) = tag.source ∷ (numbers_of below ++ numbers_of more)
+
+abbrev pub numbers : String → List (Option ℕ)
+numbers bytes = numbers_of (html_tree (codes bytes)).trees
+
+-- of a text in a context element of a name
+abbrev pub numbers_inside : String → String → List (Option ℕ)
+numbers_inside name bytes =
+    numbers_of (html_fragment_by standard (context_named html_space name) (codes bytes))

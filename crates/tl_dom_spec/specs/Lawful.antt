@@ -1,5 +1,5 @@
 -- Laws of trees that are built of tokens: what holds of each element, text and comment in them.
-use Rattle.std.specs.Prelude.{Bool, List, [], codes, false, map, not, suc, true, zero, ℕ, ◌||◌, ◌∷◌, ◌≡◌, ◌⊎◌, ⊤}
+use Rattle.std.specs.Prelude.{Bool, List, None, Option, Some, [], codes, false, map, not, suc, true, zero, ℕ, ◌<◌, ◌||◌, ◌∷◌, ◌≡◌, ◌⊎◌, ⊤}
 use Rattle.tl_names.specs.Elements.{is_among, rcdata_names}
 use Rattle.tl_html_spec.specs.Balanced.{is_one_of}
 use Rattle.tl_html_spec.specs.HtmlTokenizer.{HtmlToken, StartTag, data_state, replacement, without_mark}
@@ -11,7 +11,7 @@ use Rattle.tl_dom_spec.specs.Path.{Path}
 use Rattle.tl_dom_spec.specs.Groups.{Group, a_math, an_image, an_svg, the_body, the_html}
 use Rattle.tl_dom_spec.specs.Builder.{Again, Builder, Done, Entry, Flags, Mode, Outcome, Token, a_character, a_comment, a_doctype, a_start, end_of_file, formatting, in_body, in_column_group, in_row, in_table, in_table_body, in_table_text, in_template, marker, text_mode, with_more}
 use Rattle.tl_dom_spec.specs.Adjusted.{foreign_name, foreign_tag}
-use Rattle.tl_dom_spec.specs.Dispatcher.{bound, calm, dispatch, token_done, tokens_done}
+use Rattle.tl_dom_spec.specs.Dispatcher.{bound, calm, dispatch, numbered, starts_behind, token_done, tokens_done}
 use Rattle.tl_dom_spec.specs.Driver.{builder, emitted_token, html_doctype}
 use Rattle.tl_dom_spec.specs.HtmlForest.{HtmlForest, comment, doctype, element, no_trees, text}
 use Rattle.tl_dom_spec.specs.HtmlTree.{Context, Document, children_of, context_state, document_of, fragment_start, is_raw_in, page_start}
@@ -98,6 +98,12 @@ HaveNames (token ∷ tokens) = HaveNames tokens
 
 -- Where it all comes from
 
+-- tokens whose start tags are numbered from a number on
+abbrev pub all_numbered : ℕ → List Token → List Token
+all_numbered n [] = []
+all_numbered n (token ∷ tokens) =
+    numbered n token ∷ all_numbered (starts_behind n token) tokens
+
 abbrev pub IsIn : {X : Type 0} → X → List X → Type 0
 IsIn x [] = ⊥
 IsIn x (y ∷ ys) = (x ≡ y) ⊎ IsIn x ys
@@ -144,6 +150,14 @@ pub record ComeFrom (tokens : List Token) (trees : HtmlForest) : Type 0 where
   pub texts : EachText (EachCharacter (λ c. IsIn (a_character c) tokens ⊎ IsIn c replacement)) trees
   pub comments : EachComment (λ bytes. IsIn (a_comment bytes) tokens) trees
   pub doctypes : EachDoctype (λ own. IsIn (a_doctype own) tokens) trees
+
+-- where an element has the number of a start tag, it is one of so many
+abbrev pub IsBelow : ℕ → Option ℕ → Type 0
+IsBelow count None = ⊤
+IsBelow count (Some n) = n < count
+
+abbrev pub AreNumberedBelow : ℕ → HtmlForest → Type 0
+AreNumberedBelow count trees = EachElement (λ tag below. IsBelow count tag.source) trees
 
 -- Tokens of pages: as tree construction drives the tokenizer
 

@@ -1,7 +1,8 @@
 -- Trees of the partial tree builder of `tl_tree_spec` as those of the whole one.
 use Rattle.tl_spec.specs.Tree.Forest.{comment, none, tag, text}
 use Rattle.tl_tree_spec.specs.HtmlForest as P
-use Rattle.tl_dom_spec.specs.Tags.{html_tag}
+use Rattle.std.specs.Prelude.{None}
+use Rattle.tl_dom_spec.specs.Tags.{Tag, html_tag}
 use Rattle.tl_dom_spec.specs.HtmlForest as D
 
 -- all elements are those of HTML
@@ -11,3 +12,15 @@ whole (text bytes more) = D.text bytes (whole more)
 whole (comment bytes more) = D.comment bytes (whole more)
 whole (tag own children more) =
     D.element (html_tag own.name own.attributes) (whole children) (whole more)
+
+-- a tag without the number of its start tag, which partial trees don't have
+abbrev pub unnumbered : Tag → Tag
+unnumbered t = record t { source = None }
+
+abbrev pub without_numbers : D.HtmlForest → D.HtmlForest
+without_numbers D.no_trees = D.no_trees
+without_numbers (D.text bytes more) = D.text bytes (without_numbers more)
+without_numbers (D.comment bytes more) = D.comment bytes (without_numbers more)
+without_numbers (D.doctype said more) = D.doctype said (without_numbers more)
+without_numbers (D.element own below more) =
+    D.element (unnumbered own) (without_numbers below) (without_numbers more)

@@ -2,7 +2,7 @@
 -- the standard says of elements by namespace and name (13.2.4.2).
 use Rattle.std.specs.Char.{to_ascii_lowercase}
 use Rattle.std.specs.List.{list_any}
-use Rattle.std.specs.Prelude.{Bool, List, [], codes, false, filter, map, not, true, ℕ, ◌&&◌, ◌++◌, ◌||◌}
+use Rattle.std.specs.Prelude.{Bool, List, None, Option, [], codes, false, filter, map, not, true, ℕ, ◌&&◌, ◌++◌, ◌||◌}
 use Rattle.std.specs.Str.{bytes_eq}
 use Rattle.tl_html_spec.specs.Balanced.{is_one_of}
 use Rattle.tl_html_spec.specs.HtmlTokenizer.{HtmlAttribute}
@@ -30,21 +30,27 @@ pub record Tag : Type 0 where
   pub space : Namespace
   pub name : List ℕ
   pub attributes : List Attribute
+  -- the number of its start tag among the start tags of the page, from 0 on; none where no start
+  -- tag stands for it. What is made anew of a tag (by the adoption agency, where formatting
+  -- elements are reconstructed) has the number of that tag. No rule asks for it
+  pub source : Option ℕ
 
 -- an attribute as a tag of a page has it
 abbrev pub plain_attribute : HtmlAttribute → Attribute
 plain_attribute a = record { space = no_space; key = a.0; value = a.1 }
 
+-- as a token has it: the number is given where it is taken
 abbrev pub html_tag : List ℕ → List HtmlAttribute → Tag
 html_tag name attributes = record {
   space = html_space;
   name = name;
   attributes = map plain_attribute attributes;
+  source = None;
 }
 
 -- an HTML element without attributes
 abbrev pub bare_tag : List ℕ → Tag
-bare_tag name = record { space = html_space; name = name; attributes = [] }
+bare_tag name = record { space = html_space; name = name; attributes = []; source = None }
 
 abbrev pub has_attribute : List ℕ → List Attribute → Bool
 has_attribute key attributes = list_any (λ (a : Attribute). bytes_eq a.key key) attributes

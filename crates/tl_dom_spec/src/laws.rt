@@ -10,10 +10,10 @@ ghost use Rattle.tl_dom_spec.specs.Builder.{Builder, Flags, Outcome, Token, a_ch
 ghost use Rattle.tl_dom_spec.specs.Dispatcher.{bound, token_done, tokens_done};
 ghost use Rattle.tl_dom_spec.specs.Driver.{builder, emitted_token, read_from, token_of};
 ghost use Rattle.tl_dom_spec.specs.HtmlForest.{has_contents};
-ghost use Rattle.tl_dom_spec.specs.HtmlTree.{Context, context_of, context_state, fragment_of_tokens, fragment_start, html_fragment_by, html_tree_by, page_start, standard, tree_of_tokens};
-ghost use Rattle.tl_dom_spec.specs.Lawful.{AreNamed, AreTexts, AreVoidEmpty, ComeFrom, HaveHtmlDoctypes, HaveNames, HavePlainNames, IsDoneWith, IsPage, IsSteady, driven_by_names, fragment_built, is_done_within, page_built, tokens_of_fragment, tokens_of_page, EachCharacter};
+ghost use Rattle.tl_dom_spec.specs.HtmlTree.{Context, context_of, context_state, fragment_of_tokens, fragment_read, fragment_start, html_fragment_by, html_tree_by, page_read, page_start, standard, tree_of_tokens};
+ghost use Rattle.tl_dom_spec.specs.Lawful.{AreNamed, AreNumberedBelow, AreTexts, AreVoidEmpty, ComeFrom, HaveHtmlDoctypes, HaveNames, HavePlainNames, IsDoneWith, IsPage, IsSteady, all_numbered, driven_by_names, fragment_built, is_done_within, page_built, tokens_of_fragment, tokens_of_page, EachCharacter};
 ghost use Rattle.tl_dom_spec.specs.Formatting.{reconstruct_formatting};
-ghost use Rattle.tl_dom_spec.specs.Partial.{whole};
+ghost use Rattle.tl_dom_spec.specs.Partial.{whole, without_numbers};
 ghost use Rattle.tl_dom_spec.specs.Runs.{is_of_run, kind_of, run_taken};
 ghost use Rattle.tl_dom_spec.specs.Tags.{Tag, bare_tag, html_space, is_html};
 
@@ -74,18 +74,29 @@ pub fn void_elements_are_empty()
         AreVoidEmpty (fragment_of_tokens flags context tokens) }
 {}
 
-/// Each element, text, comment and doctype comes from a token, or is an element that is put in.
+/// Each element, text, comment and doctype comes from a token, or is an element that is put in. The
+/// start tags have their numbers, from 0 on: so an element with a number is of the tag of that one.
 #[tactic(auto, using(crate::proofs::SourceLaw::page_sources, crate::proofs::SourceLaw::fragment_sources, crate::proofs::SourceLaw::built_sources, crate::proofs::SourceLaw::built_fragment_sources))]
 pub fn trees_come_from_tokens()
     ensures page { (flags : Flags) (page : List ℕ) →
-        ComeFrom (tokens_of_page flags page) (html_tree_by flags page).trees }
+        ComeFrom (all_numbered 0 (tokens_of_page flags page)) (html_tree_by flags page).trees }
     ensures fragment { (flags : Flags) (context : Context) (bytes : List ℕ) →
-        ComeFrom (tokens_of_fragment flags context bytes)
+        ComeFrom (all_numbered 0 (tokens_of_fragment flags context bytes))
         (html_fragment_by flags context bytes) }
     ensures page_of_tokens { (flags : Flags) (tokens : List Token) →
-        ComeFrom tokens (page_built flags tokens).trees }
+        ComeFrom (all_numbered 0 tokens) (page_built flags tokens).trees }
     ensures fragment_of_tokens { (flags : Flags) (context : Context) (tokens : List Token) →
-        ComeFrom tokens (fragment_built flags context tokens) }
+        ComeFrom (all_numbered 0 tokens) (fragment_built flags context tokens) }
+{}
+
+/// An element that has the number of a start tag has that of one that was taken.
+#[tactic(auto, using(crate::proofs::NumberLaw::page_numbers, crate::proofs::NumberLaw::fragment_numbers))]
+pub fn numbers_are_those_of_start_tags()
+    ensures page { (flags : Flags) (page : List ℕ) →
+        AreNumberedBelow (page_read flags page).starts (html_tree_by flags page).trees }
+    ensures fragment { (flags : Flags) (context : Context) (bytes : List ℕ) →
+        AreNumberedBelow (fragment_read flags context bytes).starts
+        (html_fragment_by flags context bytes) }
 {}
 
 /// A `template` alone has contents, and it is no element of `svg` or `math`.
@@ -119,13 +130,15 @@ pub fn bound_suffices()
 {}
 
 /// Where the partial builder of `tl_tree_spec` has an outcome, the whole definition has the same
-/// trees, in the context of a `div`, whether `search` is a special element or not.
+/// trees, in the context of a `div`, whether `search` is a special element or not: but for the
+/// numbers of start tags, which partial trees don't have.
 #[tactic(auto, using(crate::proofs::PartTrees::partial_is_whole))]
 pub fn partial_trees_are_whole()
     ensures { (counts_search : Bool) (tokens : List HtmlToken) (forest : HtmlForest) →
         html_trees_where counts_search tokens ≡ Some forest →
-        fragment_of_tokens (record standard { counts_search = counts_search })
-        (context_of (bare_tag (codes "div"))) tokens ≡ whole forest }
+        without_numbers
+        (fragment_of_tokens (record standard { counts_search = counts_search })
+        (context_of (bare_tag (codes "div"))) tokens) ≡ whole forest }
 {}
 
 /// Where the names of start tags are plain, it is no matter whether they drive the tokenizer, or

@@ -10,5 +10,6 @@ mod laws;
 mod others;
 mod proportion;
 mod runs;
+mod sources;
 mod start;
 mod tables;
