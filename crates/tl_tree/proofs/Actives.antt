@@ -31,7 +31,7 @@ unfolding seen
 seen-append s xs ys =
     ap reverse (map-append (entry_of s) xs ys) ∙ reverse-append (map (entry_of s) xs) (map (entry_of s) ys)
 
-seen-front : (s : Store) (e : Entry) (ys : List Entry) → seen s (e ∷ ys) ≡ seen s ys ++ entry_of s e ∷ []
+pub seen-front : (s : Store) (e : Entry) (ys : List Entry) → seen s (e ∷ ys) ≡ seen s ys ++ entry_of s e ∷ []
 unfolding seen
 seen-front s e ys = reverse-append (entry_of s e ∷ []) (map (entry_of s) ys)
 

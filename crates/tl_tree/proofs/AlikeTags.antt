@@ -9,7 +9,6 @@ use Rattle.tl_dom_spec.specs.Formatting.{is_alike, is_same_attribute}
 use Rattle.tl_dom_spec.specs.Tags as tags
 use Rattle.tl_tree.proofs.Listed.{all-drop, all-take}
 use Rattle.tl_tree.specs.Inner.Store.{attribute_of, bytes_of, entries_of, is_attribute, is_span, is_tag, list_in, tag_at, tag_of}
-use Rattle.tl_tree.specs.declared.entries.AttributeEntry.{AttributeEntry}
 use Rattle.tl_tree.specs.declared.entries.TagEntry.{TagEntry}
 use Rattle.tl_tree.specs.declared.store.Store.{Store}
 

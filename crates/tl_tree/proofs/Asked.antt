@@ -9,13 +9,10 @@ use Rattle.tl_html_spec.specs.Balanced.{with_first, words}
 use Rattle.tl_html_spec.specs.Doctypes as doctypes
 use Rattle.tl_tree.proofs.Listed.{part-front}
 use Rattle.tl_tree.specs.Inner.Store.{bytes_of, doctype_at, doctype_of, is_span, tag_at, tag_of}
-use Rattle.tl_tree.specs.Inner.Tests.{named, tag_test_of}
 use Rattle.tl_tree.specs.declared.entries.DoctypeEntry.{DoctypeEntry}
 use Rattle.tl_tree.specs.declared.entries.TagEntry.{TagEntry}
 use Rattle.tl_tree.specs.declared.span.Span.{Span}
 use Rattle.tl_tree.specs.declared.store.Store.{Store}
-use Rattle.tl_tree.specs.declared.test.TagTest.{TagTest}
-use Rattle.tl_tree.specs.declared.test.TagTest.TheVariants.{Any, Heading, ImpliedThoroughly, ItemBound, Named, Nothing, Scope, ScopeOr, Special}
 
 pub name-of : (s : Store) (t : TagEntry) → bytes_of s t.name ≡ (tag_of s t).name
 unfolding tag_of
@@ -73,33 +70,3 @@ words-split (b ∷ text) =
       | true ↦ ap (λ names. [] ∷ names) (words-split text)
       | false ↦ with-onto b (words text) ∙ ap (onto_first b) (words-split text)
     ]
-
--- what is asked of a tag, by its number
-pub tag-named : (test : TagTest) (s : Store) (n : ℕ) (t : TagEntry) (name : List ℕ) → tag_of s t ≡ tag_at s n → name ≡ bytes_of s t.name → tag_test_of test (named t.space name) ≡ tag_test_of test (tag_at s n)
-unfolding tag_of
-tag-named Nothing s n t name e own = refl
-tag-named (Any names) s n t name e own =
-    ap (λ bytes. dom.is_any names.now (named t.space bytes)) own ∙ ap (dom.is_any names.now) e
-tag-named (Named it) s n t name e own =
-    ap (λ bytes. dom.is_named it.now (named t.space bytes)) own ∙ ap (dom.is_named it.now) e
-tag-named Scope s n t name e own =
-    ap (λ bytes. dom.is_scope (named t.space bytes)) own ∙ ap dom.is_scope e
-tag-named (ScopeOr names) s n t name e own =
-    ap (λ bytes. tag_test_of (ScopeOr names) (named t.space bytes)) own
-    ∙ ap (tag_test_of (ScopeOr names)) e
-tag-named Heading s n t name e own =
-    ap (λ bytes. dom.is_heading (named t.space bytes)) own ∙ ap dom.is_heading e
-tag-named ImpliedThoroughly s n t name e own =
-    ap (λ bytes. dom.is_implied_thoroughly (named t.space bytes)) own
-    ∙ ap dom.is_implied_thoroughly e
-tag-named (Special counts_search) s n t name e own =
-    ap (λ bytes. dom.is_special counts_search (named t.space bytes)) own
-    ∙ ap (dom.is_special counts_search) e
-tag-named (ItemBound counts_search) s n t name e own =
-    ap (λ bytes. dom.is_item_bound counts_search (named t.space bytes)) own
-    ∙ ap (dom.is_item_bound counts_search) e
-
-pub implied-named : (s : Store) (n : ℕ) (t : TagEntry) (name : List ℕ) → tag_of s t ≡ tag_at s n → name ≡ bytes_of s t.name → dom.is_implied (named t.space name) ≡ dom.is_implied (tag_at s n)
-unfolding tag_of
-implied-named s n t name e own =
-    ap (λ bytes. dom.is_implied (named t.space bytes)) own ∙ ap dom.is_implied e

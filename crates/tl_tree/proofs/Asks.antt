@@ -1,5 +1,5 @@
 -- What is asked of rows.
-use Rattle.std.proofs.Common.{IsTrue, List, None, Option, Some, [], ap, arith, false, get_or, length, nat_lt, refl, slice_get, subst, sym, true, ℕ, ◌<◌, ◌∙◌, ◌≡◌, ◌↔◌}
+use Rattle.std.proofs.Common.{IsTrue, List, None, Option, Some, [], ap, arith, false, get_or, length, nat_lt, refl, slice_get, subst, suc, sym, true, zero, ℕ, ◌-◌, ◌<◌, ◌↔◌, ◌∙◌, ◌≡◌}
 use Rattle.std.proofs.lemmas.Bool.{lt-ltb, ltb-true}
 use Rattle.std.proofs.lemmas.Option.{none-some, same_Some, slice_get-map, slice_get_read}
 use Rattle.std.specs.Option.{option_and_then, option_copied, option_map, unwrap_or}
@@ -9,7 +9,7 @@ use Rattle.tl_tree.proofs.Templates.{tag-is}
 use Rattle.tl_tree.specs.Asked.{attributes_at, attributes_of, doctype_of as asked_doctype, doctype_said, end_at, name_of, namespace_by, namespace_of, node_at}
 use Rattle.tl_tree.specs.Inner.RowView.{bytes_in, held_in, held_is_within, row_in, row_is_within}
 use Rattle.tl_tree.specs.Inner.Said.{attributes_in}
-use Rattle.tl_tree.specs.Inner.Store.{bytes_of, doctype_at, doctype_of, entries_of, sizes_of, space_of, tag_at, tag_of, text_of}
+use Rattle.tl_tree.specs.Inner.Store.{bytes_of, doctype_at, doctype_of, entries_of, sizes_of, source_of, space_of, tag_at, tag_of, text_of}
 use Rattle.tl_tree.specs.Rows.{IsInRange, Row, an_element}
 use Rattle.tl_tree.specs.TreeView.{rows_in}
 use Rattle.tl_tree.specs.declared.doctype.Doctype.{Doctype}
@@ -22,6 +22,7 @@ use Rattle.tl_tree.specs.declared.row.Held.TheVariants.{Doctype as HeldDoctype, 
 use Rattle.tl_tree.specs.declared.row.Row as code
 use Rattle.tl_tree.specs.declared.store.Store.{Store}
 use Rattle.tl_tree.specs.declared.tree.Tree.{Tree}
+use Rattle.tl_tree.specs.Sources.{number_at, number_of}
 
 end-found : (rows : List Row) (outer end : ℕ) (o : Option Row) → slice_get rows outer ≡ o → option_map (λ (row : Row). row.end) o ≡ Some end → (row : Row) × (slice_get rows outer ≡ Some row) × (row.end ≡ end)
 end-found rows outer end None e f = absurd (none-some end f)
@@ -88,6 +89,23 @@ namespace-back Svg = refl
 pub namespace-found : (t : Tree) (number tag : ℕ) (items : List code.Row) (row : code.Row) (entry : TagEntry) → items ≡ t.rows.items → true ≡ nat_lt number (length items) → row ≡ get_or items number row → row.held ≡ Element tag → entry ≡ get_or t.store.tags.items tag entry → Some entry.space ≡ option_and_then namespace_of (node_at (rows_in t) number)
 namespace-found t number tag items row entry same below got held e =
     sym (ap (option_and_then namespace_of) (element-found t number tag items row entry same below got held e) ∙ ap (λ v. Some v) (ap namespace_by (tag-spaced t.store entry) ∙ namespace-back entry.space))
+
+-- The number of its start tag
+
+tag-sourced : (s : Store) (entry : TagEntry) → (tag_of s entry).source ≡ source_of entry.start
+unfolding tag_of
+tag-sourced s entry = refl
+
+pub start-found : (t : Tree) (number tag : ℕ) (items : List code.Row) (row : code.Row) (entry : TagEntry) → items ≡ t.rows.items → true ≡ nat_lt number (length items) → row ≡ get_or items number row → row.held ≡ Element tag → entry ≡ get_or t.store.tags.items tag entry → source_of entry.start ≡ number_at (rows_in t) number
+start-found t number tag items row entry same below got held e =
+    sym (ap (option_and_then number_of) (element-found t number tag items row entry same below got held e) ∙ tag-sourced t.store entry)
+
+pub start-none : (k : ℕ) → k ≡ 0 → source_of k ≡ None
+start-none k e = ap source_of e
+
+pub start-some : (k : ℕ) → (k ≡ 0 → ⊥) → source_of k ≡ Some (k - 1)
+start-some zero e = absurd (e refl)
+start-some (suc k) e = ap (λ (n : ℕ). Some n) (omega arith)
 
 -- Attributes
 

@@ -4,7 +4,7 @@ use Rattle.std.proofs.lemmas.Bool.{and_left, and_parts, cond-false, cond-true, f
 use Rattle.std.specs.Char.{is_ascii_whitespace}
 use Rattle.std.specs.Prelude.{◌==◌}
 use Rattle.tl_dom_spec.proofs.RunsFirst.{Counted, counted}
-use Rattle.tl_dom_spec.proofs.RunsNext.{count_same, run_Counted, run_counted, run_rest, split}
+use Rattle.tl_dom_spec.proofs.RunsNext.{count_same, run_Counted, run_counted, run_rest, run_starts, split}
 use Rattle.tl_dom_spec.proofs.RunsStarts.{AtRest, Calm, ModeRest, Rebuilt, content, content_text, rebuilt_same}
 use Rattle.tl_dom_spec.specs.Body.{body_character}
 use Rattle.tl_dom_spec.specs.Builder.{Again, Builder, Done, Mode, a_character, after_after_body, after_after_frameset, after_body, after_frameset, after_head, before_head, before_html, formatting, frameset_not_ok, in_body, in_caption, in_cell, in_column_group, in_frameset, in_head, in_head_noscript, in_row, in_table, in_table_body, in_table_text, in_template, initial, insert_character, marker, repeated, text_mode}
@@ -162,11 +162,12 @@ one-done : (c : ℕ) (b : Builder) → Whole b → token_done b (a_character c) 
 one-done c b w =
     let steps : Builder = repeated (bound b) (dispatch (a_character c)) (Again (calm b)) in
     let x : Builder = run_dispatched (c ∷ []) b in
-    ap count_token
+    ap (λ (z : Builder). record (count_token z) { starts = b.starts })
     (cond-false (b.skips && (c == 10)) (calm b) steps (and_left b.skips (c == 10) w.rest.0.0)
     ∙ ap (λ z. repeated (bound b) (dispatch (a_character c)) (Again z)) (calm-same b w.rest.0)
     ∙ once (bound b) c b x (omega arith) (one-step c b w))
-    ∙ count_same x (run_Counted (c ∷ []) b w.few)
+    ∙ ap (λ (z : Builder). record z { starts = b.starts }) (count_same x (run_Counted (c ∷ []) b w.few))
+    ∙ ap (λ (n : ℕ). record (count_tokens 1 x) { starts = n }) (sym (run_starts (c ∷ []) b))
 
 whole-kept : (c : ℕ) (b : Builder) → Whole b → Whole (count_tokens 1 (run_dispatched (c ∷ []) b))
 whole-kept c b w =
@@ -235,7 +236,7 @@ whole-at-rest b e =
 
 calmed : (c : ℕ) (b : Builder) → b.skips ≡ false → token_done b (a_character c) ≡ token_done (calm b) (a_character c)
 calmed c b e =
-    ap count_token
+    ap (λ (z : Builder). record (count_token z) { starts = b.starts })
     (cond-false (b.skips && (c == 10)) (calm b) (repeated (bound b) (dispatch (a_character c)) (Again (calm b))) (and_left b.skips (c == 10) e))
 
 pub whole-taken : (b : Builder) (text : List ℕ) → is_at_rest b ≡ true → 0 < length text → tokens_done b (map a_character text) ≡ run_taken text (calm b)
@@ -244,3 +245,14 @@ whole-taken b (c ∷ run) e some =
     let p = and_parts (not b.skips) (rests b.mode (not b.is_frameset_ok && is_rebuilt b) && (is_counted b && content b)) e in
     ap (λ own. tokens_done own (map a_character run)) (calmed c b (is-shut b.skips p.0))
     ∙ all-taken c run (calm b) (whole-at-rest b e)
+
+-- by the rules of HTML content
+pub whole-in-html : (b : Builder) (text : List ℕ) → is_at_rest b ≡ true → 0 < length text → tokens_done b (map a_character text) ≡ count_tokens (length text) (html_run b.mode (filter (goes_in b.mode) text) (calm b))
+whole-in-html b [] e some = absurd (omega arith)
+whole-in-html b (c ∷ run) e some =
+    let skips = and_parts (not b.skips) (rests b.mode (not b.is_frameset_ok && is_rebuilt b) && (is_counted b && content b)) e in
+    let mode = and_parts (rests b.mode (not b.is_frameset_ok && is_rebuilt b)) (is_counted b && content b) skips.1 in
+    let html = and_parts (is_counted b) (content b) mode.1 in
+    whole-taken b (c ∷ run) e some
+    ∙ ap (count_tokens (length (c ∷ run)))
+    (cond-true (content b) (html_run b.mode (filter (goes_in b.mode) (c ∷ run)) (calm b)) (insert_text (with_replacements (c ∷ run)) (calm b)) html.1)

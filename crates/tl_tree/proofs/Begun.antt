@@ -1,6 +1,6 @@
 -- Walks over the stack that begin further out: what they go past makes no difference.
-use Rattle.std.proofs.Common.{IsTrue, List, None, Option, Some, [], ap, arith, false, get_or, inl, inr, length, map, min, nat_eq, not, refl, reverse, suc, sym, take, true, zero, ℕ, Bool, ◌&&◌, ◌+◌, ◌-◌, ◌<◌, ◌≤◌, ◌||◌, ◌∙◌, ◌∷◌, ◌≡◌}
-use Rattle.std.proofs.lemmas.Bool.{and_parts, cases_lt, eq-eqb, false≢true}
+use Rattle.std.proofs.Common.{IsTrue, List, None, Option, Some, [], ap, arith, false, get_or, inl, inr, length, map, min, nat_eq, not, refl, reverse, subst, suc, sym, take, true, zero, ℕ, Bool, ◌&&◌, ◌+◌, ◌-◌, ◌<◌, ◌≤◌, ◌||◌, ◌∙◌, ◌∷◌, ◌≡◌}
+use Rattle.std.proofs.lemmas.Bool.{and_parts, and_right, cases_lt, eq-eqb, false≢true}
 use Rattle.std.proofs.lemmas.Option.{same_Some, slice_get-map, slice_get_read}
 use Rattle.std.specs.Char.{to_ascii_lowercase}
 use Rattle.std.specs.Option.{option_map, unwrap_or}
@@ -64,6 +64,35 @@ sought-begun test bounds p n le h k =
     sought-all test bounds p end refl
     ∙ same-from (sought test bounds p) n end le
     (λ i least below. sought-past test bounds p i below (none-at test p n i h least below) (none-at bounds p n i k least below))
+
+-- no frame passes the test
+within-missed : (test bounds : dom.Frame → Bool) (f : dom.Frame) (fs : List dom.Frame) → test f ≡ false → dom.within test bounds fs ≡ false → dom.within test bounds (f ∷ fs) ≡ false
+within-missed test bounds f fs fails rest =
+    ap (λ b. b || (not (bounds f) && dom.within test bounds fs)) fails
+    ∙ and_right (not (bounds f)) (dom.within test bounds fs) rest
+
+sought-missed : (test bounds : dom.Frame → Bool) (p : FramePath) (n : ℕ) → n ≤ length p.frames.items → IsTrue (none_from test p 0) → sought test bounds p n ≡ false
+unfolding sought
+sought-missed test bounds p zero le h = refl
+sought-missed test bounds p (suc n) le h =
+    let next : suc n ≡ n + 1 = omega arith in
+    ap (λ k. dom.within test bounds (around p k)) next
+    ∙ by-open (frame_at p n).is_open refl (sought-missed test bounds p n (omega arith) h)
+  where
+    below : n < length p.frames.items
+    below = omega arith
+
+    by-open : (b : Bool) → (frame_at p n).is_open ≡ b → dom.within test bounds (around p n) ≡ false → dom.within test bounds (around p (n + 1)) ≡ false
+    by-open false closed rest = ap (dom.within test bounds) (elements-closed p n below closed) ∙ rest
+    by-open true opened rest =
+        ap (dom.within test bounds) (elements-open p n below opened)
+        ∙ within-missed test bounds (frame_at p n) (around p n) (none-at test p 0 n h (omega arith) below) rest
+
+pub sought-nowhere : (test bounds : dom.Frame → Bool) (p : FramePath) (first : ℕ) → first ≡ 0 → IsTrue (none_from test p first) → dom.within test bounds (dom.elements (path_of p)) ≡ false
+sought-nowhere test bounds p first none h =
+    let end = length p.frames.items in
+    sought-all test bounds p end refl
+    ∙ sought-missed test bounds p end (omega arith) (subst (λ (n : ℕ). IsTrue (none_from test p n)) none h)
 
 -- The furthest block
 

@@ -7,9 +7,11 @@ use Rattle.tl_dom_spec.specs.Builder as dom
 use Rattle.tl_dom_spec.specs.Path as paths
 use Rattle.tl_dom_spec.specs.Tags as tags
 use Rattle.tl_html_spec.specs.Doctypes.{Doctype}
+use Rattle.tl_names.specs.declared.element_name.TheConstants.ElementName.{OTHER}
 use Rattle.tl_tree.proofs.ActiveNumbers.{active-grown}
 use Rattle.tl_tree.proofs.Grown.{bytes-grown, doctype-at-grown, is-node-grown, tag-at-grown}
 use Rattle.tl_tree.proofs.Listed.{begins-longer}
+use Rattle.tl_tree.proofs.Tallies.{tallied-grown}
 use Rattle.tl_tree.proofs.Within.{lt-more, or-left}
 use Rattle.tl_tree.proofs.Written.{parts-of}
 use Rattle.tl_tree.specs.Inner.Active.{active_of}
@@ -19,6 +21,7 @@ use Rattle.tl_tree.specs.Inner.Frames.{path_of}
 use Rattle.tl_tree.specs.Inner.Known.{AreKnown, context_is_known}
 use Rattle.tl_tree.specs.Inner.Modes.{mode_of}
 use Rattle.tl_tree.specs.Inner.Store.{Grows, bytes_of, doctype_at, sizes_of, tag_at, tag_of}
+use Rattle.tl_tree.specs.Inner.Tallied.{IsTallied}
 use Rattle.tl_tree.specs.declared.active.ActiveList.{ActiveList}
 use Rattle.tl_tree.specs.declared.builder.Builder.{Builder}
 use Rattle.tl_tree.specs.declared.cell.Node.TheVariants.{Text}
@@ -34,7 +37,7 @@ context-more m n le None h = h
 context-more m n le (Some tag) h = lt-more tag m n h le
 
 -- what a builder refers to stays in the store, and numbers stay given out
-pub known-more : (b : Builder) (q : FramePath) → Grows b.path.store q.store → b.path.next ≤ q.next → AreKnown (sizes_of q.store) q.next b.active.greatest_number b.active.greatest_tag b.context b.tag b.text b.doctype
+pub known-more : (b : Builder) (q : FramePath) → Grows b.path.store q.store → b.path.next ≤ q.next → AreKnown (sizes_of q.store) q.next b.active.greatest_number b.active.greatest_tag b.context b.tag b.text b.doctype q.store b.active
 known-more b q g least =
     let s = b.path.store in
     let t = q.store in
@@ -52,14 +55,15 @@ known-more b q g least =
       around = context-more (length s.tags.items) (length t.tags.items) more b.context k.around;
       said = is-node-grown s t g (Text b.text) k.said;
       typed = omega arith;
+      tallied = tallied-grown s t g b.active listed k.tallied;
     }
 
-pub known-kept : (b : Builder) (q : FramePath) → Grows b.path.store q.store → q.next ≡ b.path.next → AreKnown (sizes_of q.store) q.next b.active.greatest_number b.active.greatest_tag b.context b.tag b.text b.doctype
+pub known-kept : (b : Builder) (q : FramePath) → Grows b.path.store q.store → q.next ≡ b.path.next → AreKnown (sizes_of q.store) q.next b.active.greatest_number b.active.greatest_tag b.context b.tag b.text b.doctype q.store b.active
 known-kept b q g e = known-more b q g (omega (arith, e))
 
 -- another list, of which no number and no tag is greater
-pub known-listed : (b : Builder) (list : ActiveList) → list.greatest_number ≡ b.active.greatest_number → list.greatest_tag ≡ b.active.greatest_tag → AreKnown (sizes_of b.path.store) b.path.next list.greatest_number list.greatest_tag b.context b.tag b.text b.doctype
-known-listed b list number tag =
+pub known-listed : (b : Builder) (list : ActiveList) → list.greatest_number ≡ b.active.greatest_number → list.greatest_tag ≡ b.active.greatest_tag → IsTallied b.path.store list → AreKnown (sizes_of b.path.store) b.path.next list.greatest_number list.greatest_tag b.context b.tag b.text b.doctype b.path.store list
+known-listed b list number tag tallied =
     let k = b.known in
     let numbered = k.numbered in
     let listed = k.listed in
@@ -70,11 +74,12 @@ known-listed b list number tag =
       around = k.around;
       said = k.said;
       typed = k.typed;
+      tallied = tallied;
     }
 
 -- with another list too
-pub known-both : (b : Builder) (q : FramePath) (list : ActiveList) → Grows b.path.store q.store → b.path.next ≤ q.next → list.greatest_number < q.next → list.greatest_tag < length q.store.tags.items → AreKnown (sizes_of q.store) q.next list.greatest_number list.greatest_tag b.context b.tag b.text b.doctype
-known-both b q list g least number tag =
+pub known-both : (b : Builder) (q : FramePath) (list : ActiveList) → Grows b.path.store q.store → b.path.next ≤ q.next → list.greatest_number < q.next → list.greatest_tag < length q.store.tags.items → IsTallied q.store list → AreKnown (sizes_of q.store) q.next list.greatest_number list.greatest_tag b.context b.tag b.text b.doctype q.store list
+known-both b q list g least number tag tallied =
     let k = known-more b q g least in
     record {
       numbered = number;
@@ -83,6 +88,7 @@ known-both b q list g least number tag =
       around = k.around;
       said = k.said;
       typed = k.typed;
+      tallied = tallied;
     }
 
 pub context-grown : (s t : Store) → Grows s t → (context : Option ℕ) → IsTrue (context_is_known (length s.tags.items) context) → option_map (tag_at t) context ≡ option_map (tag_at s) context
@@ -105,7 +111,7 @@ same-parts d p p' a a' n n' c c' is-p is-a is-n is-c =
     ∙ (ap (λ own. with_parts d p' a' own c) is-n
     ∙ ap (λ own. with_parts d p' a' n' own) is-c))
 
-pub path-changed : (b : Builder) (q : FramePath) (known : AreKnown (sizes_of q.store) q.next b.active.greatest_number b.active.greatest_tag b.context b.tag b.text b.doctype) (path : paths.Path) (next : ℕ) → Grows b.path.store q.store → q.next ≡ next → path_of q ≡ path → builder_of (record b { path = q; known = known }) ≡ record (builder_of b) { path = path; next = next }
+pub path-changed : (b : Builder) (q : FramePath) (known : AreKnown (sizes_of q.store) q.next b.active.greatest_number b.active.greatest_tag b.context b.tag b.text b.doctype q.store b.active) (path : paths.Path) (next : ℕ) → Grows b.path.store q.store → q.next ≡ next → path_of q ≡ path → builder_of (record b { path = q; known = known }) ≡ record (builder_of b) { path = path; next = next }
 unfolding builder_of with_parts
 path-changed b q known path next g is-next is-path =
     same-parts (builder_of b) (path_of q) path (active_of q.store b.active) (active_of b.path.store b.active) q.next next
@@ -113,7 +119,7 @@ path-changed b q known path next g is-next is-path =
     is-path (active-grown b.path.store q.store g b.active b.known.listed) is-next (context-grown b.path.store q.store g b.context b.known.around)
 
 -- with another list too
-pub both-changed : (b : Builder) (q : FramePath) (list : ActiveList) (known : AreKnown (sizes_of q.store) q.next list.greatest_number list.greatest_tag b.context b.tag b.text b.doctype) (path : paths.Path) (next : ℕ) (entries : List dom.Entry) → Grows b.path.store q.store → q.next ≡ next → path_of q ≡ path → active_of q.store list ≡ entries → builder_of (record b { path = q; active = list; known = known }) ≡ record (builder_of b) { path = path; active = entries; next = next }
+pub both-changed : (b : Builder) (q : FramePath) (list : ActiveList) (known : AreKnown (sizes_of q.store) q.next list.greatest_number list.greatest_tag b.context b.tag b.text b.doctype q.store list) (path : paths.Path) (next : ℕ) (entries : List dom.Entry) → Grows b.path.store q.store → q.next ≡ next → path_of q ≡ path → active_of q.store list ≡ entries → builder_of (record b { path = q; active = list; known = known }) ≡ record (builder_of b) { path = path; active = entries; next = next }
 unfolding builder_of with_parts
 both-changed b q list known path next entries g is-next is-path is-active =
     same-parts (builder_of b) (path_of q) path (active_of q.store list) entries q.next next
@@ -125,7 +131,7 @@ same-said p p' t t' x x' d d' is-page is-tag is-text is-doctype =
     ap (λ own. said own t x d) is-page
     ∙ (ap (λ own. said p' own x d) is-tag ∙ (ap (λ own. said p' t' own d) is-text ∙ ap (said p' t' x') is-doctype))
 
-pub token-kept : (b : Builder) (q : FramePath) (known : AreKnown (sizes_of q.store) q.next b.active.greatest_number b.active.greatest_tag b.context b.tag b.text b.doctype) → Grows b.path.store q.store → token_of (record b { path = q; known = known }) ≡ token_of b
+pub token-kept : (b : Builder) (q : FramePath) (known : AreKnown (sizes_of q.store) q.next b.active.greatest_number b.active.greatest_tag b.context b.tag b.text b.doctype q.store b.active) → Grows b.path.store q.store → token_of (record b { path = q; known = known }) ≡ token_of b
 unfolding token_of said
 token-kept b q known g =
     let s = b.path.store in
@@ -143,7 +149,7 @@ on-ok-is (Ok own) x a b e is = is ∙ e
 on-ok-is (Err own) x a b e is = is
 
 -- a tag without attributes
-pub bare-tag-of : (s : Store) (name : Span) → tag_of s (record { space = Html; name = name; known = 0; list = Tags; first_attribute = 0; attribute_count = 0 }) ≡ tags.bare_tag (bytes_of s name)
+pub bare-tag-of : (s : Store) (name : Span) → tag_of s (record { space = Html; name = name; known = OTHER; list = Tags; first_attribute = 0; attribute_count = 0; start = 0 }) ≡ tags.bare_tag (bytes_of s name)
 unfolding tag_of
 bare-tag-of s name = refl
 
@@ -155,8 +161,8 @@ some-tag s (f ∷ frames) some within =
     omega arith
 
 -- a builder of a new path
-pub known-new : (p : FramePath) (number active doctype : ℕ) → number ≡ 0 → active ≡ 0 → p.next ≡ 1 → doctype < length p.store.doctypes.items → AreKnown (sizes_of p.store) p.next number active None 0 (record { start = 0; len = 0 }) doctype
-known-new p number active doctype none is one within =
+pub known-new : (p : FramePath) (list : ActiveList) (number active doctype : ℕ) → IsTallied p.store list → number ≡ 0 → active ≡ 0 → p.next ≡ 1 → doctype < length p.store.doctypes.items → AreKnown (sizes_of p.store) p.next number active None 0 (record { start = 0; len = 0 }) doctype p.store list
+known-new p list number active doctype tallied none is one within =
     let some = some-tag p.store p.frames.items p.some p.within in
     record {
       numbered = omega arith;
@@ -165,6 +171,7 @@ known-new p number active doctype none is one within =
       around = refl;
       said = or-left (nat_le 0 (length p.store.page.now)) (nat_le (length p.store.page.now) 0 && nat_le 0 (length p.store.page.now + length p.store.side.items)) (le-leb 0 (length p.store.page.now) (omega arith));
       typed = within;
+      tallied = tallied;
     }
 
 with_start : dom.Builder → paths.Path → List dom.Entry → ℕ → List dom.Mode → List ℕ → dom.Builder

@@ -1,11 +1,12 @@
 -- The tag of a context element, put into a store.
-use Rattle.std.proofs.Common.{ap, arith, sym, ◌∙◌, ◌≡◌, ◌+◌, ◌-◌, ◌<◌, ◌++◌, ◌∷◌, [], IsTrue, List, Some, append_assoc, codes, drop, get_or, if◌then◌else◌, length, map, suc, take, ℕ}
+use Rattle.std.proofs.Common.{IsTrue, List, None, Some, [], ap, append_assoc, arith, codes, drop, get_or, if◌then◌else◌, length, map, suc, sym, take, ℕ, ◌++◌, ◌+◌, ◌-◌, ◌<◌, ◌∙◌, ◌∷◌, ◌≡◌}
 use Rattle.std.proofs.Math.Seq.{take-suc}
 use Rattle.std.proofs.lemmas.List.{drop-map, length-map, map-append, take-map}
 use Rattle.tl_dom_spec.specs.Builder as builders
 use Rattle.tl_dom_spec.specs.HtmlTree.{Context, context_form, fragment_start, page_start}
 use Rattle.tl_dom_spec.specs.Reset.{reset_insertion_mode}
 use Rattle.tl_dom_spec.specs.Tags as dom
+use Rattle.tl_names.specs.declared.element_name.TheConstants.ElementName.{OTHER}
 use Rattle.tl_tree.proofs.Grown.{bytes-grown, grows_trans}
 use Rattle.tl_tree.proofs.SaidTags.{attributes-same, last-entries, span-kept}
 use Rattle.tl_tree.specs.Inner.Said.{attributes_in}
@@ -49,7 +50,7 @@ one-more f front all more xs i d h stands added =
 -- a tag whose attributes were put in last
 pub tag-added : (t u : Store) → Grows t u → (space : Namespace) (span : Span) → IsTrue (is_span t span) → (name : List ℕ) → bytes_of t span ≡ name → (attributes : List dom.Attribute) →
     attributes_in u (list_in u Tags) ≡ attributes_in t (list_in t Tags) ++ attributes → (first all : ℕ) → first ≡ length (list_in t Tags) → all ≡ length (list_in u Tags) →
-    tag_of u (record { space = space; name = span; known = 0; list = Tags; first_attribute = first; attribute_count = all - first }) ≡ record { space = space_of space; name = name; attributes = attributes }
+    tag_of u (record { space = space; name = span; known = OTHER; list = Tags; first_attribute = first; attribute_count = all - first; start = 0 }) ≡ record { space = space_of space; name = name; attributes = attributes; source = None }
 unfolding tag_of
 tag-added t u g space span within name is attributes put first all first_is all_is =
     let items = list_in u Tags in
@@ -58,8 +59,8 @@ tag-added t u g space span within name is attributes put first all first_is all_
     let own : attributes_in u (take (all - first) (drop first items)) ≡ attributes =
     sym (take-map (attribute_of u) (all - first) (drop first items))
     ∙ (ap (take (all - first)) (sym (drop-map (attribute_of u) first items)) ∙ last) in
-    ap (λ (n : List ℕ). record { space = space_of space; name = n; attributes = attributes_in u (take (all - first) (drop first items)) }) (bytes-grown t u g span within ∙ is)
-    ∙ ap (λ (xs : List dom.Attribute). record { space = space_of space; name = name; attributes = xs }) own
+    ap (λ (n : List ℕ). record { space = space_of space; name = n; attributes = attributes_in u (take (all - first) (drop first items)); source = None }) (bytes-grown t u g span within ∙ is)
+    ∙ ap (λ (xs : List dom.Attribute). record { space = space_of space; name = name; attributes = xs; source = None }) own
 
 -- What a builder holds before the first token of a fragment
 

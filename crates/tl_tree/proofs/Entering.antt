@@ -1,5 +1,5 @@
 -- What was entered of a path is what its outermost frames are.
-use Rattle.std.proofs.Common.{ap, arith, sym, subst, ◌∙◌, ◌≡◌, ◌+◌, ◌<◌, ◌++◌, ◌==◌, ◌∷◌, [], Bool, Err, IsErr, IsTrue, Ok, OnErr, OnOk, Result, List, Some, cond, drop, false, get_or, length, map, not, refl, reverse, set, slice_get, suc, take, zero, ℕ}
+use Rattle.std.proofs.Common.{ap, arith, sym, subst, ◌∙◌, ◌≡◌, ◌<◌, ◌++◌, ◌==◌, ◌∷◌, [], Bool, Err, IsErr, IsTrue, Ok, OnErr, OnOk, Result, List, Some, cond, drop, false, get_or, length, map, not, refl, reverse, set, slice_get, suc, take, zero, ℕ}
 use Rattle.std.proofs.lemmas.Bool.{and_parts, not-true, or_from, or_parts}
 use Rattle.std.proofs.lemmas.List.{map-append, take-append-drop}
 use Rattle.std.proofs.lemmas.Option.{same_Some, slice_get-map, slice_get_read}
@@ -16,9 +16,7 @@ use Rattle.tl_tree.specs.Inner.Framed.{are_distinct, frame_is_within, numbers}
 use Rattle.tl_tree.specs.Inner.Framed as framed
 use Rattle.tl_tree.specs.Inner.Frames.{frame_of, frames_of, is_frame, path_of}
 use Rattle.tl_tree.specs.Inner.Roles.{is_numbered, role_of}
-use Rattle.tl_tree.specs.Inner.Store.{Grows, bytes_of, tag_at, tag_of}
-use Rattle.tl_tree.specs.Inner.Tests.{named}
-use Rattle.tl_tree.specs.declared.entries.TagEntry.{TagEntry}
+use Rattle.tl_tree.specs.Inner.Store.{Grows, tag_at}
 use Rattle.tl_tree.specs.declared.frame.Frame.{Frame}
 use Rattle.tl_tree.specs.declared.path.FramePath.{FramePath}
 use Rattle.tl_tree.specs.declared.role.Entered.{Entered}
@@ -233,11 +231,6 @@ same-path p q frames store =
     ∙ ap (λ (xs : List Frame). reverse (map (frame_of p.store) xs)) frames
 
 -- What a frame is to searches
-
-pub role-named : (s : Store) (n : ℕ) (t : TagEntry) (name : List ℕ) (role : Role) → tag_of s t ≡ tag_at s n → name ≡ bytes_of s t.name → role ≡ role_of (named t.space name) → role ≡ role_of (tag_at s n)
-unfolding tag_of
-role-named s n t name role e own is =
-    is ∙ (ap (λ bytes. role_of (named t.space bytes)) own ∙ ap role_of e)
 
 pub frame-entered : (s : Store) (frames : List Frame) (i : ℕ) (f : Frame) (role : Role) → f ≡ get_or frames i f → i < length frames → role ≡ role_of (tag_at s f.tag) → slice_get (map (entered_of s) frames) i ≡ Some (record { number = f.number; role = role })
 frame-entered s [] i f role is h e = absurd (omega arith)

@@ -1,5 +1,5 @@
 -- Words in their case, and the attributes and tags that are put in with them.
-use Rattle.std.proofs.Common.{add-one, ap, arith, drop-cons, inl, inr, refl, subst, sym, ◌∙◌, ◌≡◌, ◌+◌, ◌-◌, ◌<◌, ◌≤◌, ◌++◌, ◌&&◌, ◌||◌, ◌∷◌, [], Bool, IsTrue, List, drop, false, get_or, if◌then◌else◌, length, length-append, length-drop, map, nat_le, suc, take, true, ℕ}
+use Rattle.std.proofs.Common.{Bool, IsTrue, List, Option, [], add-one, ap, arith, drop, drop-cons, false, get_or, if◌then◌else◌, inl, inr, length, length-append, length-drop, map, nat_le, refl, subst, suc, sym, take, true, ℕ, ◌&&◌, ◌++◌, ◌+◌, ◌-◌, ◌<◌, ◌||◌, ◌∙◌, ◌∷◌, ◌≡◌, ◌≤◌}
 use Rattle.std.proofs.Math.Seq.{take-suc}
 use Rattle.std.proofs.lemmas.Bool.{and_from, and_parts, cond-false, cond-true, or_cases}
 use Rattle.std.proofs.lemmas.Cmp.{nat_list_eq_equiv}
@@ -10,6 +10,7 @@ use Rattle.std.specs.Str.{bytes_eq}
 use Rattle.tl_dom_spec.specs.Adjusted.{cased, foreign_attribute, foreign_key, foreign_tag, prefixed}
 use Rattle.tl_dom_spec.specs.Tags as dom
 use Rattle.tl_names.specs.Elements.{words_of}
+use Rattle.tl_names.specs.declared.element_name.TheConstants.ElementName.{OTHER}
 use Rattle.tl_tree.proofs.AlikeTags.{entries-long, entries-within, name-at, tag-parts}
 use Rattle.tl_tree.proofs.Grown.{attribute-grown, bytes-grown, entries-kept, tag-grown}
 use Rattle.tl_tree.proofs.Listed.{all-drop, begins-longer}
@@ -19,7 +20,7 @@ use Rattle.tl_tree.proofs.Written.{all-at}
 use Rattle.tl_tree.specs.Inner.Foreign.{own_name, renamed, spaced}
 use Rattle.tl_tree.specs.Inner.Lists.{in_list}
 use Rattle.tl_tree.specs.Inner.Said.{attributes_in}
-use Rattle.tl_tree.specs.Inner.Store.{Grows, attribute_of, attribute_space_of, bytes_of, entries_of, is_attribute, is_span, is_tag, list_in, space_of, tag_at, tag_of, text_of}
+use Rattle.tl_tree.specs.Inner.Store.{Grows, attribute_of, attribute_space_of, bytes_of, entries_of, is_attribute, is_span, is_tag, list_in, source_of, space_of, tag_at, tag_of, text_of}
 use Rattle.tl_tree.specs.declared.entries.AttributeEntry.{AttributeEntry}
 use Rattle.tl_tree.specs.declared.entries.AttributeList.TheVariants.{Tags}
 use Rattle.tl_tree.specs.declared.entries.AttributeSpace.{AttributeSpace}
@@ -140,7 +141,7 @@ attributes-put o s t u before g more tag within i h f stands items is put put_wi
 pub tag-put : (s t u : Store) → Grows s t → Grows t u → (n : ℕ) (own : TagEntry) → IsTrue (is_tag s own) → tag_of s own ≡ tag_at s n → (space : Namespace) (is_renamed : Bool) (name : Span) → IsTrue (is_span t name) → bytes_of t name ≡ own_name is_renamed (space_of space) (bytes_of s own.name) →
     (first : ℕ) → first ≡ length (list_in t Tags) → length (list_in u Tags) ≡ length (list_in t Tags) + own.attribute_count →
     attributes_in u (drop (length (list_in t Tags)) (list_in u Tags)) ≡ map (foreign_attribute (space_of space)) (attributes_in t (entries_of t own)) →
-    tag_of u (record { space = space; name = name; known = 0; list = Tags; first_attribute = first; attribute_count = own.attribute_count }) ≡ foreign_tag (space_of space) (renamed is_renamed (space_of space) (tag_at s n))
+    tag_of u (record { space = space; name = name; known = OTHER; list = Tags; first_attribute = first; attribute_count = own.attribute_count; start = own.start }) ≡ foreign_tag (space_of space) (renamed is_renamed (space_of space) (tag_at s n))
 unfolding tag_of
 tag-put s t u g more n own within is space is_renamed name name_within name_is first first_is many stands =
     let all = length-drop (length (list_in t Tags)) (list_in u Tags) in
@@ -150,5 +151,6 @@ tag-put s t u g more n own within is space is_renamed name name_within name_is f
     ap (λ (k : ℕ). attributes_in u (take own.attribute_count (drop k (list_in u Tags)))) first_is
     ∙ (ap (attributes_in u) (take_all own.attribute_count (drop (length (list_in t Tags)) (list_in u Tags)) (omega arith))
     ∙ (stands ∙ ap (map (foreign_attribute (space_of space))) (ap (λ (tag : dom.Tag). tag.attributes) (tag-grown s t g own within ∙ is)))) in
-    ap (λ (bytes : List ℕ). record { space = space_of space; name = bytes; attributes = attributes_in u (take own.attribute_count (drop first (list_in u Tags))) }) as_name
-    ∙ ap (λ (attributes : List dom.Attribute). record { space = space_of space; name = own_name is_renamed (space_of space) (tag_at s n).name; attributes = attributes }) as_attributes
+    ap (λ (bytes : List ℕ). record { space = space_of space; name = bytes; attributes = attributes_in u (take own.attribute_count (drop first (list_in u Tags))); source = source_of own.start }) as_name
+    ∙ ap (λ (attributes : List dom.Attribute). record { space = space_of space; name = own_name is_renamed (space_of space) (tag_at s n).name; attributes = attributes; source = source_of own.start }) as_attributes
+    ∙ ap (λ (own : Option ℕ). record (foreign_tag (space_of space) (renamed is_renamed (space_of space) (tag_at s n))) { source = own }) (ap (λ (tag : dom.Tag). tag.source) is)

@@ -11,7 +11,7 @@ use Rattle.tl_dom_spec.specs.Tags as dom
 use Rattle.tl_html_spec.specs.Doctypes as doctypes
 use Rattle.tl_tree.proofs.Listed.{all-drop, all-take, begins-longer, begins-refl, begins-trans, map-same, mapped-front, mapped-last, part-front}
 use Rattle.tl_tree.proofs.Within.{node-more, span-bound}
-use Rattle.tl_tree.specs.Inner.Store.{Begins, Grows, attribute_of, attribute_space_of, bytes_of, doctype_at, doctype_of, entries_of, is_attribute, is_doctype, is_node, is_span, is_tag, list_in, node_in, node_of, nodes_of, row_in, rows_from, rows_of, sizes_of, space_of, tag_at, tag_of, text_of}
+use Rattle.tl_tree.specs.Inner.Store.{Begins, Grows, attribute_of, attribute_space_of, bytes_of, doctype_at, doctype_of, entries_of, is_attribute, is_doctype, is_node, is_span, is_tag, list_in, node_in, node_of, nodes_of, row_in, rows_from, rows_of, sizes_of, source_of, space_of, tag_at, tag_of, text_of}
 use Rattle.tl_tree.specs.Inner.Within.{Sizes, cell_is_within, cells_are_within, id_is_within, node_is_within}
 use Rattle.tl_tree.specs.declared.cell.Cell.{Cell}
 use Rattle.tl_tree.specs.declared.cell.Node.{Node}
@@ -92,8 +92,8 @@ pub tag-grown : (s t : Store) → Grows s t → (tag : TagEntry) → IsTrue (is_
 unfolding tag_of
 tag-grown s t g tag h =
     let p = and_parts (is_span s tag.name) (nat_le (tag.first_attribute + tag.attribute_count) (length (list_in s tag.list))) h in
-    ap (λ (name : List ℕ). record { space = space_of tag.space; name = name; attributes = map (attribute_of t) (entries_of t tag) }) (bytes-grown s t g tag.name p.0)
-    ∙ ap (λ (attributes : List dom.Attribute). record { space = space_of tag.space; name = bytes_of s tag.name; attributes = attributes })
+    ap (λ (name : List ℕ). record { space = space_of tag.space; name = name; attributes = map (attribute_of t) (entries_of t tag); source = source_of tag.start }) (bytes-grown s t g tag.name p.0)
+    ∙ ap (λ (attributes : List dom.Attribute). record { space = space_of tag.space; name = bytes_of s tag.name; attributes = attributes; source = source_of tag.start })
     (entries-grown s t g tag (leb-true (tag.first_attribute + tag.attribute_count) (length (list_in s tag.list)) p.1))
 
 pub tag-at-grown : (s t : Store) → Grows s t → (n : ℕ) → n < length s.tags.items → tag_at t n ≡ tag_at s n

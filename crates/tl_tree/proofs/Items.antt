@@ -1,5 +1,5 @@
 -- Which item a start tag of `li`, `dd` or `dt` closes.
-use Rattle.std.proofs.Common.{ap, refl, ◌∙◌, ◌≡◌, ◌&&◌, ◌||◌, ◌∷◌, [], Bool, List, Option, Some, None, codes, false, if◌then◌else◌, not, true, ℕ}
+use Rattle.std.proofs.Common.{Bool, List, None, Option, Some, [], ap, codes, false, if◌then◌else◌, not, refl, true, ℕ, ◌&&◌, ◌||◌, ◌∙◌, ◌∷◌, ◌≡◌}
 use Rattle.std.proofs.lemmas.Bool.{false≢true}
 use Rattle.std.proofs.lemmas.Slice.Eq.{bytes_eq-Decides}
 use Rattle.std.specs.Str.{bytes_eq}
@@ -17,16 +17,16 @@ item-named t name b h =
     ap (λ (own : List ℕ). close_except_for (is_named own) (is_named own) b) ((bytes_eq-Decides t.name name).0 h)
 
 -- a `dt` bounds the search itself
-dt-bound : (counts : Bool) (space : Namespace) (attributes : List Attribute) → by_space space true false false ≡ true → is_item_bound counts (record { space = space; name = codes "dt"; attributes = attributes }) ≡ true
-dt-bound true html_space attributes h = refl
-dt-bound false html_space attributes h = refl
-dt-bound counts math_space attributes h = absurd (false≢true h)
-dt-bound counts svg_space attributes h = absurd (false≢true h)
+dt-bound : (counts : Bool) (space : Namespace) (attributes : List Attribute) (source : Option ℕ) → by_space space true false false ≡ true → is_item_bound counts (record { space = space; name = codes "dt"; attributes = attributes; source = source }) ≡ true
+dt-bound true html_space attributes source h = refl
+dt-bound false html_space attributes source h = refl
+dt-bound counts math_space attributes source h = absurd (false≢true h)
+dt-bound counts svg_space attributes source h = absurd (false≢true h)
 
 dt-bounds : (counts : Bool) (t : Tag) → is_html t ≡ true → bytes_eq t.name (codes "dt") ≡ true → is_item_bound counts t ≡ true
 dt-bounds counts t html h =
-    ap (λ (own : List ℕ). is_item_bound counts (record { space = t.space; name = own; attributes = t.attributes })) ((bytes_eq-Decides t.name (codes "dt")).0 h)
-    ∙ dt-bound counts t.space t.attributes html
+    ap (λ (own : List ℕ). is_item_bound counts (record { space = t.space; name = own; attributes = t.attributes; source = t.source })) ((bytes_eq-Decides t.name (codes "dt")).0 h)
+    ∙ dt-bound counts t.space t.attributes t.source html
 
 one : (h x bound more : Bool) (t : Tag) (rest : Option Tag) (b own : Builder) → (x ≡ true → item_closed_at (Some t) b ≡ own) → item_closed_at rest b ≡ (if more then own else b) → item_closed_at (if h && (x || false) then Some t else if bound then None else rest) b ≡ (if h && (x || false) || (not bound && more) then own else b)
 one false x true more t rest b own is next = refl

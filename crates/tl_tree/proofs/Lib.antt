@@ -25,6 +25,7 @@ pub mod Asked
 pub mod Inserted
 pub mod Items
 pub mod Sought
+pub mod Sourced
 pub mod Heads
 pub mod HeadRows
 pub mod Fostered
@@ -33,6 +34,7 @@ pub mod StackWalk
 pub mod SaidTags
 pub mod Actives
 pub mod ActiveNumbers
+pub mod Tallies
 pub mod Skips
 pub mod Turning
 pub mod AlikeTags
@@ -64,5 +66,7 @@ pub mod AdoptedNear
 pub mod Rounds
 pub mod Merged
 pub mod AtRests
+pub mod KnownNames
 pub mod Taken
 pub mod ReadOn
+pub mod NumberedNames

@@ -11,7 +11,7 @@ use Rattle.tl_tree.proofs.Grown.{bytes-grown, grows_trans}
 use Rattle.tl_tree.proofs.SaidTags.{attributes-same, span-kept}
 use Rattle.tl_tree.specs.Inner.Merging.{IsLast, is_missing, missing}
 use Rattle.tl_tree.specs.Inner.Said.{attributes_in}
-use Rattle.tl_tree.specs.Inner.Store.{Grows, attribute_of, bytes_of, entries_of, is_attribute, is_span, is_tag, list_in, space_of, tag_of}
+use Rattle.tl_tree.specs.Inner.Store.{Grows, attribute_of, bytes_of, entries_of, is_attribute, is_span, is_tag, list_in, source_of, space_of, tag_of}
 use Rattle.tl_tree.specs.declared.entries.AttributeEntry.{AttributeEntry}
 use Rattle.tl_tree.specs.declared.entries.AttributeList.{AttributeList}
 use Rattle.tl_tree.specs.declared.entries.TagEntry.{TagEntry}
@@ -50,7 +50,7 @@ pub none-missing : (s : Store) (own other : TagEntry) → missing s own other �
 unfolding tag_of
 none-missing s own other none =
     let all = attributes_in s (entries_of s own) in
-    ap (λ (attributes : List dom.Attribute). record { space = space_of own.space; name = bytes_of s own.name; attributes = attributes })
+    ap (λ (attributes : List dom.Attribute). record { space = space_of own.space; name = bytes_of s own.name; attributes = attributes; source = source_of own.start })
     (sym (append-nil all) ∙ ap (λ (more : List dom.Attribute). all ++ more) (sym (ap (attributes_in s) none) ∙ missing-in s own other))
 
 -- A tag whose attributes are put in once more
@@ -73,8 +73,8 @@ module _ (s u : Store) (g : Grows s u) (list : AttributeList) (tag : TagEntry) (
   pub copied-tag : tag_of u moved ≡ tag_of s tag
   unfolding tag_of
   copied-tag =
-      ap (λ (n : List ℕ). record { space = space_of tag.space; name = n; attributes = attributes_in u (entries_of u moved) }) (bytes-grown s u g tag.name (tag-parts s tag within).name)
-      ∙ ap (λ (attributes : List dom.Attribute). record { space = space_of tag.space; name = bytes_of s tag.name; attributes = attributes })
+      ap (λ (n : List ℕ). record { space = space_of tag.space; name = n; attributes = attributes_in u (entries_of u moved); source = source_of tag.start }) (bytes-grown s u g tag.name (tag-parts s tag within).name)
+      ∙ ap (λ (attributes : List dom.Attribute). record { space = space_of tag.space; name = bytes_of s tag.name; attributes = attributes; source = source_of tag.start })
       (ap (attributes_in u) entries-moved ∙ attributes-same s u g (entries_of s tag) (entries-within s tag))
 
   pub copied-last : IsLast u list moved
@@ -137,6 +137,6 @@ module _ (t u : Store) (more : Grows t u) (list : AttributeList) (last : TagEntr
       ∙ (map-append (attribute_of u) (entries_of t last) xs
       ∙ (ap (λ ys. ys ++ attributes_in u xs) (attributes-same t u more (entries_of t last) (entries-within t last))
       ∙ ap (λ ys. front ++ ys) as_more)) in
-      ap (λ (n : List ℕ). record { space = space_of last.space; name = n; attributes = attributes_in u (entries_of u longer) }) (bytes-grown t u more last.name (tag-parts t last at_end.within).name)
-      ∙ (ap (λ (attributes : List dom.Attribute). record { space = space_of last.space; name = bytes_of t last.name; attributes = attributes }) as_attributes
+      ap (λ (n : List ℕ). record { space = space_of last.space; name = n; attributes = attributes_in u (entries_of u longer); source = source_of last.start }) (bytes-grown t u more last.name (tag-parts t last at_end.within).name)
+      ∙ (ap (λ (attributes : List dom.Attribute). record { space = space_of last.space; name = bytes_of t last.name; attributes = attributes; source = source_of last.start }) as_attributes
       ∙ ap (λ (tag : dom.Tag). record tag { attributes = tag.attributes ++ added }) same)

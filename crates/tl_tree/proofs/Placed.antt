@@ -1,5 +1,5 @@
 -- From which place on frames go to what is right around them.
-use Rattle.std.proofs.Common.{ap, arith, sym, subst, ◌∙◌, ◌≡◌, ◌≤◌, ◌<◌, ◌++◌, ◌∷◌, [], Bool, IsTrue, List, cond, drop, false, length, map, min, refl, set, suc, take, true, zero, ℕ}
+use Rattle.std.proofs.Common.{ap, arith, sym, subst, ◌∙◌, ◌≡◌, ◌+◌, ◌≤◌, ◌<◌, ◌++◌, ◌∷◌, [], Bool, IsTrue, List, cond, drop, false, length, map, min, refl, set, suc, take, true, zero, ℕ}
 use Rattle.std.proofs.lemmas.Bool.{and_from, and_parts, false≢true}
 use Rattle.std.proofs.lemmas.List.{drop-map, drop_all, take-append-drop}
 use Rattle.std.specs.List.{insert, list_all}
@@ -29,6 +29,20 @@ here-later [] k n h all = all-drop is_here n [] refl
 here-later (f ∷ frames) zero n h all = all-drop is_here n (f ∷ frames) all
 here-later (f ∷ frames) (suc k) zero h all = absurd (omega arith)
 here-later (f ∷ frames) (suc k) (suc n) h all = here-later frames k n (omega arith) all
+
+-- those that stand from a place on
+pub here-within : (frames : List Frame) (k n place : ℕ) → k ≤ n + place → HereFrom k frames → HereFrom n (drop place frames)
+here-within frames k n zero h all = here-later frames k n (omega arith) all
+here-within [] k n (suc place) h all = all-drop is_here n [] refl
+here-within (f ∷ frames) zero n (suc place) h all =
+    here-within frames zero n place (omega arith) (and_parts (is_here f) (list_all is_here frames) all).1
+here-within (f ∷ frames) (suc k) n (suc place) h all = here-within frames k n place (omega arith) all
+
+-- those that stand inside of others
+pub here-appended : (xs ys : List Frame) (k n : ℕ) → length xs + k ≤ n → HereFrom k ys → HereFrom n (xs ++ ys)
+here-appended [] ys k n h all = here-later ys k n (omega arith) all
+here-appended (x ∷ xs) ys k zero h all = absurd (omega arith)
+here-appended (x ∷ xs) ys k (suc n) h all = here-appended xs ys k n (omega arith) all
 
 one-of : (b : Bool) → (b ≡ false → false ≡ true) → IsTrue b
 one-of true h = refl

@@ -156,7 +156,7 @@ opened_at b tag =
 with_two : dom.Builder → List dom.Entry → ℕ → dom.Builder
 with_two d entries added = record d { active = entries; added = added }
 
-pub rest-element : (b : Builder) (q : FramePath) (a : ActiveList) (added : ℕ) (known : AreKnown (sizes_of q.store) q.next a.greatest_number a.greatest_tag b.context b.tag b.text b.doctype) (n k tag : ℕ) (e : Entry) → Grows b.path.store q.store → q.next ≡ suc b.path.next → added ≡ suc b.added → path_of q ≡ opened_at b (tag_at b.path.store tag) → a.entries.items ≡ set b.active.entries.items n (Formatting b.path.next tag) → n < length b.active.entries.items → e ≡ get_or b.active.entries.items n e → e ≡ Formatting k tag → tag ≤ b.active.greatest_tag → rest_reopened (record b { path = q; active = a; added = added; known = known }) (n + 1) ≡ rest_reopened b n
+pub rest-element : (b : Builder) (q : FramePath) (a : ActiveList) (added : ℕ) (known : AreKnown (sizes_of q.store) q.next a.greatest_number a.greatest_tag b.context b.tag b.text b.doctype q.store a) (n k tag : ℕ) (e : Entry) → Grows b.path.store q.store → q.next ≡ suc b.path.next → added ≡ suc b.added → path_of q ≡ opened_at b (tag_at b.path.store tag) → a.entries.items ≡ set b.active.entries.items n (Formatting b.path.next tag) → n < length b.active.entries.items → e ≡ get_or b.active.entries.items n e → e ≡ Formatting k tag → tag ≤ b.active.greatest_tag → rest_reopened (record b { path = q; active = a; added = added; known = known }) (n + 1) ≡ rest_reopened b n
 unfolding rest_reopened builder_of with_two
 rest-element b q a added known n k tag e g is-next is-added is-path is-set h is own low =
     ap (λ all. reopened (map (entry_of t) all) after) rest

@@ -15,13 +15,14 @@ use Rattle.tl_tree.specs.Inner.Frames.{path_of}
 use Rattle.tl_tree.specs.Inner.Known.{AreKnown}
 use Rattle.tl_tree.specs.Inner.Rounds.{rounds}
 use Rattle.tl_tree.specs.Inner.Store.{Grows, sizes_of, tag_at}
+use Rattle.tl_tree.specs.Inner.Tallied.{IsTallied}
 use Rattle.tl_tree.specs.declared.active.ActiveList.{ActiveList}
 use Rattle.tl_tree.specs.declared.builder.Builder.{Builder}
 use Rattle.tl_tree.specs.declared.path.FramePath.{FramePath}
 
 -- what a builder refers to, after a round
-pub known-adopted : (b : Builder) (q : FramePath) (list : ActiveList) → Grows b.path.store q.store → b.path.next ≤ q.next → list.greatest_number < q.next → list.greatest_tag < length b.path.store.tags.items → AreKnown (sizes_of q.store) q.next list.greatest_number list.greatest_tag b.context b.tag b.text b.doctype
-known-adopted b q list g least number tag =
+pub known-adopted : (b : Builder) (q : FramePath) (list : ActiveList) → Grows b.path.store q.store → b.path.next ≤ q.next → list.greatest_number < q.next → list.greatest_tag < length b.path.store.tags.items → IsTallied q.store list → AreKnown (sizes_of q.store) q.next list.greatest_number list.greatest_tag b.context b.tag b.text b.doctype q.store list
+known-adopted b q list g least number tag tallied =
     let known = known-more b q g least in
     let more = begins-longer b.path.store.tags.items q.store.tags.items g.tags in
     record {
@@ -31,6 +32,7 @@ known-adopted b q list g least number tag =
       around = known.around;
       said = known.said;
       typed = known.typed;
+      tallied = tallied;
     }
 
 -- all but what a round changes
@@ -45,7 +47,7 @@ same-round d p p' a a' n n' c c' m m' is-p is-a is-n is-c is-m =
     ∙ (ap (λ own. with_round d p' a' own c m) is-n
     ∙ (ap (λ own. with_round d p' a' n' own m) is-c ∙ ap (with_round d p' a' n' c') is-m)))
 
-pub block-adopted : (b : Builder) (q : FramePath) (list : ActiveList) (known : AreKnown (sizes_of q.store) q.next list.greatest_number list.greatest_tag b.context b.tag b.text b.doctype) (own : Listed) (n made : ℕ) → Grows b.path.store q.store → IsAdopted b.is_fostering own (frame_at b.path n) (clones_in own (frame_at b.path n) (path_of b.path) (active_of b.path.store b.active) b.path.next) b.path q list made → dom.Again (record (builder_of (record b { path = q; active = list; known = known })) { added = b.added + suc made }) ≡ with_block (builder_of b) own (Some (frame_at b.path n))
+pub block-adopted : (b : Builder) (q : FramePath) (list : ActiveList) (known : AreKnown (sizes_of q.store) q.next list.greatest_number list.greatest_tag b.context b.tag b.text b.doctype q.store list) (own : Listed) (n made : ℕ) → Grows b.path.store q.store → IsAdopted b.is_fostering own (frame_at b.path n) (clones_in own (frame_at b.path n) (path_of b.path) (active_of b.path.store b.active) b.path.next) b.path q list made → dom.Again (record (builder_of (record b { path = q; active = list; known = known })) { added = b.added + suc made }) ≡ with_block (builder_of b) own (Some (frame_at b.path n))
 unfolding builder_of with_round
 block-adopted b q list known own n made g is =
     let p = b.path in
@@ -58,7 +60,7 @@ block-adopted b q list known own n made g is =
     (option_map (tag_at q.store) b.context) (option_map (tag_at p.store) b.context) (b.added + suc made) (b.added + (suc clones.next - p.next))
     is.path is.active is.next (context-grown p.store q.store g b.context b.known.around) (omega arith))
 
-pub blocks-adopted : {E : Type 0} (r : Result ℕ E) (b : Builder) (q : FramePath) (list : ActiveList) (known : AreKnown (sizes_of q.store) q.next list.greatest_number list.greatest_tag b.context b.tag b.text b.doctype) (own : Listed) (n : ℕ) → Grows b.path.store q.store → IfOk r (λ made. IsAdopted b.is_fostering own (frame_at b.path n) (clones_in own (frame_at b.path n) (path_of b.path) (active_of b.path.store b.active) b.path.next) b.path q list made) → IfOk r (λ made. dom.Again (record (builder_of (record b { path = q; active = list; known = known })) { added = (builder_of (record b { path = q; active = list; known = known })).added + suc made }) ≡ with_block (builder_of b) own (Some (frame_at b.path n)))
+pub blocks-adopted : {E : Type 0} (r : Result ℕ E) (b : Builder) (q : FramePath) (list : ActiveList) (known : AreKnown (sizes_of q.store) q.next list.greatest_number list.greatest_tag b.context b.tag b.text b.doctype q.store list) (own : Listed) (n : ℕ) → Grows b.path.store q.store → IfOk r (λ made. IsAdopted b.is_fostering own (frame_at b.path n) (clones_in own (frame_at b.path n) (path_of b.path) (active_of b.path.store b.active) b.path.next) b.path q list made) → IfOk r (λ made. dom.Again (record (builder_of (record b { path = q; active = list; known = known })) { added = (builder_of (record b { path = q; active = list; known = known })).added + suc made }) ≡ with_block (builder_of b) own (Some (frame_at b.path n)))
 unfolding builder_of
 blocks-adopted (Ok made) b q list known own n g is = block-adopted b q list known own n made g is
 blocks-adopted (Err e) b q list known own n g is = is

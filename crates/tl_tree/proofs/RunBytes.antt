@@ -1,19 +1,20 @@
 -- The bytes of a run.
-use Rattle.std.proofs.Common.{ap, arith, refl, sym, ◌∙◌, ◌≡◌, ◌+◌, ◌<◌, ◌++◌, ◌∷◌, [], Bool, IsTrue, List, None, cond, false, filter, get_or, length, suc, take, true, ℕ}
-use Rattle.memchr.specs.Find.{IsFirstByte, is_byte}
+use Rattle.std.proofs.Common.{ap, arith, refl, sym, ◌∙◌, ◌≡◌, ◌+◌, ◌<◌, ◌++◌, ◌∷◌, [], Bool, IsTrue, List, cond, false, filter, get_or, length, suc, take, true, ℕ}
 use Rattle.std.proofs.Math.Seq.{take-suc}
-use Rattle.std.proofs.lemmas.Bool.{and_from, and_parts}
+use Rattle.std.proofs.lemmas.Bool.{and_from, and_parts, or_parts}
 use Rattle.std.specs.Bool.{OnTrue}
-use Rattle.std.specs.List.{list_all}
-use Rattle.std.specs.Prelude.{◌==◌}
+use Rattle.std.specs.List.{list_all, list_any}
+use Rattle.std.specs.Prelude.{◌==◌, not}
 use Rattle.tl_dom_spec.specs.Runs.{with_replacements}
 use Rattle.tl_html_spec.specs.HtmlTokenizer.{replacement}
-use Rattle.tl_html_parts.proofs.Free.{all_free}
 use Rattle.tl_tree.proofs.Sought.{is-shut}
 use Rattle.tl_tree.specs.Inner.RunBytes.{is_not_null}
 
-pub no_null : (s : List ℕ) → IsFirstByte (is_byte 0) s None → IsTrue (list_all is_not_null s)
-no_null s none = all_free (is_byte 0) s none
+pub no_null : (s : List ℕ) → list_any (λ c. c == 0) s ≡ false → IsTrue (list_all is_not_null s)
+no_null [] none = refl
+no_null (x ∷ xs) none =
+    let p = or_parts (x == 0) (list_any (λ c. c == 0) xs) none in
+    and_from (not (x == 0)) (list_all is_not_null xs) (ap not p.0) (no_null xs p.1)
 
 -- where any passes, all pass
 pub all-any : {A : Type 0} (test : A → Bool) → ((x : A) → test x ≡ true) → (xs : List A) → list_all test xs ≡ true

@@ -1,26 +1,29 @@
--- What tokens say, put into a store: values without references, and attributes one by one.
-use Rattle.std.proofs.Common.{Global, Vec, ap, ap₂, arith, cond, not, sym, subst, ◌∙◌, ◌≡◌, ◌+◌, ◌-◌, ◌≤◌, ◌<◌, ◌++◌, ◌||◌, ◌∷◌, [], Bool, false, true, IsTrue, List, None, append-nil, drop, get_or, if◌then◌else◌, length, length-append, map, refl, suc, take, ℕ}
-use Rattle.memchr.specs.Find.{IsFirstByte, is_byte}
-use Rattle.std.proofs.Math.Seq.{drop-append_seam, take-suc}
-use Rattle.std.proofs.Math.Bool.{or-false}
-use Rattle.std.proofs.lemmas.List.{map-append, take_all}
+-- What tokens say, put into a store: attributes one by one, and where their parts stand.
+use Rattle.std.proofs.Common.{Global, Vec, ap, ap₂, arith, cond, not, sym, subst, ◌∙◌, ◌≡◌, ◌+◌, ◌-◌, ◌≤◌, ◌<◌, ◌++◌, ◌||◌, ◌∷◌, [], Bool, false, true, IsTrue, List, None, append-nil, append_assoc, drop, if◌then◌else◌, inl, inr, length, length-append, length-take, map, refl, take, ℕ}
+use Rattle.std.proofs.Math.Seq.{drop-append_seam}
+use Rattle.std.proofs.lemmas.Bool.{and_parts, cases_Bool}
+use Rattle.std.proofs.lemmas.List.{drop-append-le, drop-take, drop_all, map-append, take-append-drop, take-take, take_all}
 use Rattle.std.proofs.lemmas.List.Folds.{list_any-append}
 use Rattle.std.proofs.lemmas.Map.Text.{is_eq-slice_cmp}
+use Rattle.std.proofs.lemmas.Slice.Eq.{bytes_eq-Decides}
 use Rattle.std.specs.BTreeSet.{BTreeSet, Updates, contains}
 use Rattle.std.specs.List.{list_all, list_any}
 use Rattle.std.specs.Str.{bytes_eq}
 use Rattle.tl_dom_spec.specs.Tags as dom
 use Rattle.tl_html_parts.proofs.Attributes.{with_more}
-use Rattle.tl_html_parts.proofs.Free.{all_free}
-use Rattle.tl_html_parts.specs.Parts.{attribute_view, name_of, value_of, with_attributes}
-use Rattle.tl_html_parts.specs.declared.parts.AttributeParts.{AttributeParts}
-use Rattle.tl_html_spec.proofs.Looked.{bytes-plain}
-use Rattle.tl_html_spec.specs.HtmlTokenizer.{HtmlAttribute, OpenTag, with_attribute}
-use Rattle.tl_html_spec.specs.Unescaped.{unescaped_value}
+use Rattle.tl_html_parts.specs.Parts.{attributes_of, name_of, value_of, with_attributes}
+use Rattle.tl_html_parts.specs.Places.{IsAttributeAt, IsPart, part_in}
+use Rattle.tl_html_parts.specs.Rest.{HasRest}
+use Rattle.tl_html_parts.specs.declared.place.AttributePlace.{AttributePlace}
+use Rattle.tl_html_parts.specs.declared.place.PartPlace.{PartPlace}
+use Rattle.tl_html_spec.specs.HtmlTokenizer.{HtmlAttribute, HtmlToken, OpenTag, new_tag, with_attribute}
+use Rattle.tl_html_tokens.specs.Whole.{IsWhole}
+use Rattle.tl_html_tokens.specs.declared.mode.Mode.{Mode}
+use Rattle.tl_names.specs.declared.element_name.TheConstants.ElementName.{OTHER}
 use Rattle.tl_tree.proofs.Grown.{attribute-grown, bytes-grown}
-use Rattle.tl_tree.proofs.Listed.{all-weaker, begins-longer, map-same, part-front}
+use Rattle.tl_tree.proofs.Listed.{all-weaker, begins-longer, map-same, map-take, part-front}
 use Rattle.tl_tree.proofs.Within.{attribute-more, span-more}
-use Rattle.tl_tree.specs.Inner.Said.{AreKeysOf, attributes_in, attributes_so_far, key_order}
+use Rattle.tl_tree.specs.Inner.Said.{AreKeysBehind, AreRead, IsRestRead, attributes_in, attributes_so_far, has_key, key_order, keys_in, piece_at, tag_with, with_key}
 use Rattle.tl_tree.specs.Inner.Store.{Grows, attribute_of, bytes_of, is_attribute, is_span, list_in, tag_of}
 use Rattle.tl_tree.specs.Inner.Within.{attribute_is_within, span_is_within}
 use Rattle.tl_tree.specs.declared.entries.AttributeEntry.{AttributeEntry}
@@ -29,12 +32,6 @@ use Rattle.tl_tree.specs.declared.entries.AttributeSpace.TheVariants.{Plain}
 use Rattle.tl_tree.specs.declared.entries.Namespace.TheVariants.{Html}
 use Rattle.tl_tree.specs.declared.span.Span.{Span}
 use Rattle.tl_tree.specs.declared.store.Store.{Store}
-
--- a value without `&` has no reference
-pub value_plain : (s : List ℕ) → IsFirstByte (is_byte 38) s None → unescaped_value s ≡ s
-value_plain s none =
-    ap unescaped_value (sym (append-nil s))
-    ∙ (bytes-plain true s [] (all_free (is_byte 38) s none) ∙ append-nil s)
 
 -- What is in range stays so
 
@@ -86,33 +83,67 @@ key-added s u g xs ys all own is plain within value value_is has tag e =
     ∙ (sym (map-append dom.plain_attribute tag.attributes ((key, value) ∷ []))
     ∙ ap (λ (b : Bool). attributes_so_far (if b then tag else record tag { attributes = tag.attributes ++ (key, value) ∷ [] })) (sym found))))
 
--- which keys there are then
-pub keys-added : (s u : Store) → Grows s u → (xs ys : List AttributeEntry) → IsTrue (list_all (is_attribute s) xs) → (own : AttributeEntry) → ys ≡ xs ++ own ∷ [] → IsTrue (is_span s own.key) → (other : List ℕ) → dom.has_attribute other (attributes_in u ys) ≡ (dom.has_attribute other (attributes_in s xs) || bytes_eq (bytes_of s own.key) other)
-keys-added s u g xs ys all own is within other =
-    let has : Bool = dom.has_attribute other (attributes_in s xs) in
-    ap (dom.has_attribute other) (behind-others s u g xs ys all own is)
-    ∙ (list_any-append (λ (a : dom.Attribute). bytes_eq a.key other) (attributes_in s xs) (attribute_of u own ∷ [])
-    ∙ (ap (λ (b : Bool). has || b) (or-false (bytes_eq (bytes_of u own.key) other))
-    ∙ ap (λ (key : List ℕ). has || bytes_eq key other) (bytes-grown s u g own.key within)))
-
 -- an attribute whose key was put first
 pub put-later : (s t u : Store) → Grows s t → (xs ys : List AttributeEntry) → IsTrue (list_all (is_attribute s) xs) → (own key value : List ℕ) → own ≡ key → ((tag : OpenTag) → attributes_in t xs ≡ attributes_so_far tag → attributes_in u ys ≡ attributes_so_far (with_attribute tag own value)) → (tag : OpenTag) → attributes_in s xs ≡ attributes_so_far tag → attributes_in u ys ≡ attributes_so_far (with_attribute tag key value)
 put-later s t u g xs ys all own key value is put tag e =
     put tag (attributes-same s t g xs all ∙ e)
     ∙ ap (λ (k : List ℕ). attributes_so_far (with_attribute tag k value)) is
 
--- Keys in a set
+-- Keys, of which a set has those behind the first 16
+
+pub keys-has : (s : Store) (key : List ℕ) (xs : List AttributeEntry) → dom.has_attribute key (attributes_in s xs) ≡ has_key key (keys_in s xs)
+keys-has s key [] = refl
+keys-has s key (e ∷ xs) = ap (λ (b : Bool). bytes_eq (bytes_of s e.key) key || b) (keys-has s key xs)
+
+pub keys-same : (s t : Store) → Grows s t → (xs : List AttributeEntry) → IsTrue (list_all (is_attribute s) xs) → keys_in t xs ≡ keys_in s xs
+keys-same s t g xs all =
+    map-same (is_attribute s) (λ e. bytes_of t e.key) (λ e. bytes_of s e.key) (λ e h. bytes-grown s t g e.key (and_parts (is_span s e.key) (is_span s e.value) h).0) xs all
+
+pub keys-added : (s u : Store) → Grows s u → (xs ys : List AttributeEntry) → IsTrue (list_all (is_attribute s) xs) → (own : AttributeEntry) → ys ≡ xs ++ own ∷ [] → IsTrue (is_span s own.key) → has_key (bytes_of s own.key) (keys_in s xs) ≡ false → keys_in u ys ≡ with_key (keys_in s xs) (bytes_of s own.key)
+keys-added s u g xs ys all own is within has =
+    let keys : List (List ℕ) = keys_in s xs in
+    let key : List ℕ = bytes_of s own.key in
+    ap (keys_in u) is
+    ∙ (map-append (λ (e : AttributeEntry). bytes_of u e.key) xs (own ∷ [])
+    ∙ (ap₂ (λ (front : List (List ℕ)) (k : List ℕ). front ++ k ∷ []) (keys-same s u g xs all) (bytes-grown s u g own.key within)
+    ∙ ap (λ (b : Bool). if b then keys else keys ++ key ∷ []) (sym has)))
+
+has-split : (key : List ℕ) (keys : List (List ℕ)) → has_key key keys ≡ (has_key key (take 16 keys) || has_key key (drop 16 keys))
+has-split key keys =
+    ap (has_key key) (sym (take-append-drop 16 keys)) ∙ list_any-append (λ k. bytes_eq k key) (take 16 keys) (drop 16 keys)
+
+pub has-first : (key : List ℕ) (keys : List (List ℕ)) → has_key key (take 16 keys) ≡ true → has_key key keys ≡ true
+has-first key keys h = has-split key keys ∙ ap (λ (b : Bool). b || has_key key (drop 16 keys)) h
+
+pub has-others : (key : List ℕ) (keys : List (List ℕ)) → has_key key (take 16 keys) ≡ false → has_key key keys ≡ has_key key (drop 16 keys)
+has-others key keys h = has-split key keys ∙ ap (λ (b : Bool). b || has_key key (drop 16 keys)) h
+
+pub first-asked : (s : Store) (key : List ℕ) (xs : List AttributeEntry) (b : Bool) → dom.has_attribute key (attributes_in s (take 16 xs)) ≡ b → has_key key (take 16 (keys_in s xs)) ≡ b
+first-asked s key xs b h = ap (has_key key) (sym (map-take (λ (e : AttributeEntry). bytes_of s e.key) 16 xs)) ∙ (sym (keys-has s key (take 16 xs)) ∙ h)
+
+pub behind-same : (set : BTreeSet (Vec ℕ Global)) (keys : List (List ℕ)) (key : List ℕ) → AreKeysBehind set keys → has_key key keys ≡ true → AreKeysBehind set (with_key keys key)
+behind-same set keys key known has q =
+    known q ∙ ap (λ (b : Bool). has_key q.items (drop 16 (if b then keys else keys ++ key ∷ []))) (sym has)
+
+short : (keys : List (List ℕ)) (key : List ℕ) → length keys < 16 → (b : Bool) → drop 16 keys ≡ drop 16 (if b then keys else keys ++ key ∷ [])
+short keys key few true = refl
+short keys key few false =
+    let more = length-append keys (key ∷ []) in
+    drop_all 16 keys (omega arith) ∙ sym (drop_all 16 (keys ++ key ∷ []) (omega arith))
+
+pub behind-few : (set : BTreeSet (Vec ℕ Global)) (keys : List (List ℕ)) (key : List ℕ) → AreKeysBehind set keys → length keys < 16 → AreKeysBehind set (with_key keys key)
+behind-few set keys key known few q = known q ∙ ap (has_key q.items) (short keys key few (has_key key keys))
 
 twice : (x : Bool) → not (not x) ≡ x
 twice true = refl
 twice false = refl
 
-pub key-asked : (s t : Store) → Grows s t → (xs : List AttributeEntry) → IsTrue (list_all (is_attribute s) xs) → (keys : BTreeSet (Vec ℕ Global)) → AreKeysOf keys (attributes_in s xs) → (own : Vec ℕ Global) (key : List ℕ) → own.items ≡ key → (is_new : Bool) → is_new ≡ not (contains key_order keys own) → not is_new ≡ dom.has_attribute key (attributes_in t xs)
-key-asked s t g xs all keys known own key is is_new new =
-    ap not new ∙ (twice (contains key_order keys own)
+pub key-asked : (keys : List (List ℕ)) (set : BTreeSet (Vec ℕ Global)) → AreKeysBehind set keys → (own : Vec ℕ Global) (key : List ℕ) → own.items ≡ key → has_key key (take 16 keys) ≡ false → (is_new : Bool) → is_new ≡ not (contains key_order set own) → not is_new ≡ has_key key keys
+key-asked keys set known own key is first is_new new =
+    ap not new ∙ (twice (contains key_order set own)
     ∙ (known own
-    ∙ (ap (λ (k : List ℕ). dom.has_attribute k (attributes_in s xs)) is
-    ∙ ap (dom.has_attribute key) (sym (attributes-same s t g xs all)))))
+    ∙ (ap (λ (k : List ℕ). has_key k (drop 16 keys)) is
+    ∙ sym (has-others key keys first))))
 
 or-from_cond : (x y : Bool) → cond x true y ≡ (y || x)
 or-from_cond true true = refl
@@ -120,15 +151,89 @@ or-from_cond true false = refl
 or-from_cond false true = refl
 or-from_cond false false = refl
 
-pub keys-known : (s t u : Store) → Grows s t → (xs ys : List AttributeEntry) → IsTrue (list_all (is_attribute s) xs) → (old new : BTreeSet (Vec ℕ Global)) → AreKeysOf old (attributes_in s xs) → (own : Vec ℕ Global) (key : List ℕ) → own.items ≡ key → Updates key_order old new own true → ((other : List ℕ) → dom.has_attribute other (attributes_in u ys) ≡ (dom.has_attribute other (attributes_in t xs) || bytes_eq key other)) → AreKeysOf new (attributes_in u ys)
-keys-known s t u g xs ys all old new known own key is updates put q =
-    let has : Bool = dom.has_attribute q.items (attributes_in t xs) in
+or-true : (x : Bool) → (x || true) ≡ true
+or-true true = refl
+or-true false = refl
+
+or-false-right : (x : Bool) → (x || false) ≡ x
+or-false-right true = refl
+or-false-right false = refl
+
+with-one : (keys : List (List ℕ)) (key q : List ℕ) → 16 ≤ length keys → (b : Bool) → has_key key keys ≡ b → has_key key (take 16 keys) ≡ false →
+    (has_key q (drop 16 keys) || bytes_eq key q) ≡ has_key q (drop 16 (if b then keys else keys ++ key ∷ []))
+with-one keys key q many false has first =
+    ap (λ (b : Bool). has_key q (drop 16 keys) || b) (sym (or-false-right (bytes_eq key q)))
+    ∙ (sym (list_any-append (λ k. bytes_eq k q) (drop 16 keys) (key ∷ []))
+    ∙ ap (has_key q) (sym (drop-append-le 16 keys (key ∷ []) many)))
+with-one keys key q many true has first = elim (cases_Bool (bytes_eq key q)) [
+  | inl y ↦ (
+      let same : has_key q (drop 16 keys) ≡ true = ap (λ k. has_key k (drop 16 keys)) (sym ((bytes_eq-Decides key q).0 y)) ∙ (sym (has-others key keys first) ∙ has) in
+      ap (λ (b : Bool). has_key q (drop 16 keys) || b) y ∙ (or-true (has_key q (drop 16 keys)) ∙ sym same))
+  | inr n ↦ ap (λ (b : Bool). has_key q (drop 16 keys) || b) n ∙ or-false-right (has_key q (drop 16 keys))
+]
+
+pub behind-more : (keys : List (List ℕ)) (old new : BTreeSet (Vec ℕ Global)) → AreKeysBehind old keys → (own : Vec ℕ Global) (key : List ℕ) → own.items ≡ key → 16 ≤ length keys → has_key key (take 16 keys) ≡ false → Updates key_order old new own true → AreKeysBehind new (with_key keys key)
+behind-more keys old new known own key is many first updates q =
     updates.0 q
     ∙ (ap₂ (λ (x y : Bool). cond x true y)
     (is_eq-slice_cmp own.items q.items ∙ ap (λ (k : List ℕ). bytes_eq k q.items) is)
-    (known q ∙ ap (dom.has_attribute q.items) (sym (attributes-same s t g xs all)))
-    ∙ (or-from_cond (bytes_eq key q.items) has
-    ∙ sym (put q.items)))
+    (known q)
+    ∙ (or-from_cond (bytes_eq key q.items) (has_key q.items (drop 16 keys))
+    ∙ with-one keys key q.items many (has_key key keys) refl first))
+
+-- Parts of a tag that ends in a page
+
+pub piece-from : (page : List ℕ) (start end : ℕ) → start ≤ end → drop start (take end page) ≡ take (end - start) (drop start page)
+piece-from page start end order =
+    let all : end ≡ start + (end - start) = omega arith in
+    ap (λ n. drop start (take n page)) all ∙ drop-take start (end - start) page
+
+pub part-before : (page : List ℕ) (end : ℕ) (said : List ℕ → List ℕ) (p : PartPlace) → IsPart said (take end page) p → part_in (take end page) p ≡ part_in page p
+part-before page end said p own =
+    let many = length-take end page in
+    let within = own.within in
+    let order = own.order in
+    ap (take (p.end - p.start)) (piece-from page p.start end (omega arith)) ∙ take-take (p.end - p.start) (end - p.start) (drop p.start page) (omega arith)
+
+pub part-on : (page : List ℕ) (end : ℕ) (said : List ℕ → List ℕ) (p : PartPlace) → IsPart said (take end page) p → IsPart said page p
+part-on page end said p own =
+    let many = length-take end page in
+    let within = own.within in
+    let same = part-before page end said p own in
+    record {
+      order = own.order;
+      within = omega arith;
+      plain = λ kept. ap said (sym same) ∙ (own.plain kept ∙ same);
+    }
+
+pub page-part : (s : Store) (p : PartPlace) (span : Span) → span.start ≡ p.start → span.len ≡ p.end - p.start → p.start ≤ p.end → p.end ≤ length s.page.now → bytes_of s span ≡ part_in s.page.now p
+unfolding bytes_of
+page-part s p span start len order within =
+    ap (λ n. take n (drop span.start (s.page.now ++ s.side.items))) len
+    ∙ (ap (λ n. take (p.end - p.start) (drop n (s.page.now ++ s.side.items))) start
+    ∙ part-front (p.end - p.start) p.start s.page.now s.side.items (omega arith))
+
+-- nothing is read yet
+pub none-read : (text : List ℕ) (from : ℕ) → AreRead text from from []
+none-read text from = record { pairs = []; rest = λ more closes has. has; stands = refl }
+
+-- one attribute more
+pub one-read : (text : List ℕ) (from at : ℕ) (a : AttributePlace) (own now : List dom.Attribute) → AreRead text from at own → IsAttributeAt text at a →
+    ((tag : OpenTag) → own ≡ attributes_so_far tag → now ≡ attributes_so_far (with_attribute tag (name_of (part_in text a.key)) (value_of (part_in text a.value)))) → AreRead text from a.end now
+one-read text from at a own now read next put =
+    let pair : List ℕ × List ℕ = (part_in text a.key, part_in text a.value) in
+    record {
+      pairs = read.pairs ++ pair ∷ [];
+      rest = λ more closes has. subst (λ (xs : List (List ℕ × List ℕ)). HasRest (drop from text) xs closes) (sym (append_assoc read.pairs (pair ∷ []) more)) (read.rest (pair ∷ more) closes (next.rest more closes has));
+      stands = put (with_attributes (new_tag false) read.pairs) read.stands ∙ ap attributes_so_far (sym (with_more (new_tag false) read.pairs pair));
+    }
+
+pub all-read : (text : List ℕ) (from at : ℕ) (closes : Bool) (own : List dom.Attribute) → AreRead text from at own → HasRest (drop at text) [] closes → IsRestRead text from closes own
+all-read text from at closes own read last = record {
+  pairs = read.pairs;
+  rest = subst (λ (xs : List (List ℕ × List ℕ)). HasRest (drop from text) xs closes) (append-nil read.pairs) (read.rest [] closes last);
+  stands = read.stands;
+}
 
 -- bytes that stand in the page
 pub page-bytes : (s : Store) (place : ℕ) (bytes : List ℕ) (span : Span) → span.start ≡ place → span.len ≡ length bytes → place + length bytes ≤ length s.page.now → take (length bytes) (drop place s.page.now) ≡ bytes → bytes_of s span ≡ bytes
@@ -146,17 +251,6 @@ key-found s own e more same = ap (λ (b : Bool). b || dom.has_attribute own (att
 pub key-after : (s : Store) (own : List ℕ) (e : AttributeEntry) (more : List AttributeEntry) → bytes_eq (bytes_of s e.key) own ≡ false → dom.has_attribute own (attributes_in s (e ∷ more)) ≡ dom.has_attribute own (attributes_in s more)
 key-after s own e more other = ap (λ (b : Bool). b || dom.has_attribute own (attributes_in s more)) other
 
--- one attribute more
-pub attributes-more : (tag : OpenTag) (xs : List AttributeParts) (i : ℕ) (d : AttributeParts) → i < length xs →
-    with_attributes tag (map attribute_view (take (i + 1) xs))
-    ≡ with_attribute (with_attributes tag (map attribute_view (take i xs))) (name_of (get_or xs i d).key.now) (value_of (get_or xs i d).value.now)
-attributes-more tag xs i d h =
-    let next : i + 1 ≡ suc i = omega arith in
-    ap (λ (n : ℕ). with_attributes tag (map attribute_view (take n xs))) next
-    ∙ (ap (λ (ys : List AttributeParts). with_attributes tag (map attribute_view ys)) (take-suc xs i d h)
-    ∙ (ap (with_attributes tag) (map-append attribute_view (take i xs) (get_or xs i d ∷ []))
-    ∙ with_more tag (map attribute_view (take i xs)) (attribute_view (get_or xs i d))))
-
 -- what was put in last
 pub last-entries : {A : Type 0} (front xs items : List A) (first all : ℕ) → items ≡ front ++ xs → first ≡ length front → all ≡ length items → take (all - first) (drop first items) ≡ xs
 last-entries front xs items first all put first_is all_is =
@@ -169,14 +263,21 @@ last-entries front xs items first all put first_is all_is =
     ∙ take_all (length xs) xs (omega arith))))
 
 -- a tag whose attributes were put in last
-pub tag-said : (s t u : Store) → Grows s t → Grows t u → (name : List ℕ) (attributes : List HtmlAttribute) (span : Span) → IsTrue (is_span s span) → bytes_of s span ≡ name →
-    (xs : List AttributeEntry) → IsTrue (list_all (is_attribute t) xs) → attributes_in t xs ≡ map dom.plain_attribute attributes → list_in u Tags ≡ list_in t Tags ++ xs →
-    (first all : ℕ) → first ≡ length (list_in t Tags) → all ≡ length (list_in u Tags) →
-    tag_of u (record { space = Html; name = span; known = 0; list = Tags; first_attribute = first; attribute_count = all - first }) ≡ dom.html_tag name attributes
+pub tag-put : (s u : Store) → Grows s u → (span : Span) → IsTrue (is_span s span) →
+    (xs : List AttributeEntry) → IsTrue (list_all (is_attribute s) xs) → list_in u Tags ≡ list_in s Tags ++ xs →
+    (first all : ℕ) → first ≡ length (list_in s Tags) → all ≡ length (list_in u Tags) →
+    tag_of u (record { space = Html; name = span; known = OTHER; list = Tags; first_attribute = first; attribute_count = all - first; start = 0 }) ≡ tag_with (bytes_of s span) (attributes_in s xs)
 unfolding tag_of
-tag-said s t u g more name attributes span within own xs all_within stands put first all first_is all_is =
-    let later : bytes_of u span ≡ name =
-    bytes-grown t u more span (span-kept s t g span within) ∙ (bytes-grown s t g span within ∙ own) in
-    ap (λ (n : List ℕ). record { space = dom.html_space; name = n; attributes = attributes_in u (take (all - first) (drop first (list_in u Tags))) }) later
-    ∙ ap (λ (own_attributes : List dom.Attribute). record { space = dom.html_space; name = name; attributes = own_attributes })
-    (ap (attributes_in u) (last-entries (list_in t Tags) xs (list_in u Tags) first all put first_is all_is) ∙ (attributes-same t u more xs all_within ∙ stands))
+tag-put s u g span within xs all_within put first all first_is all_is =
+    ap (λ (n : List ℕ). record { space = dom.html_space; name = n; attributes = attributes_in u (take (all - first) (drop first (list_in u Tags))); source = None }) (bytes-grown s u g span within)
+    ∙ ap (tag_with (bytes_of s span))
+    (ap (attributes_in u) (last-entries (list_in s Tags) xs (list_in u Tags) first all put first_is all_is) ∙ attributes-same s u g xs all_within)
+
+-- a tag by what was read of it
+pub tag-of-parts : (t : Store) (span : Span) (xs room : List AttributeEntry) → xs ≡ room → (text : List ℕ) (from : ℕ) (closes : Bool) (name : List ℕ) → bytes_of t span ≡ name →
+    (read : IsRestRead text from closes (attributes_in t room)) → tag_with (bytes_of t span) (attributes_in t xs) ≡ dom.html_tag name (attributes_of read.pairs)
+tag-of-parts t span xs room same text from closes name named read =
+    ap₂ tag_with named (ap (attributes_in t) same ∙ read.stands)
+
+pub whole-from : (page : List ℕ) (start end : ℕ) (mode : Mode) (tokens : List HtmlToken) → start ≤ end → IsWhole mode (piece_at page start end) tokens → IsWhole mode (drop start (take end page)) tokens
+whole-from page start end mode tokens order whole = subst (λ (bytes : List ℕ). IsWhole mode bytes tokens) (sym (piece-from page start end order)) whole

@@ -1,23 +1,15 @@
 -- From where on no frame of a path passes a test: what the entered elements say of the frames, and
 -- which tests pass less than others.
-use Rattle.std.proofs.Common.{IsTrue, List, None, Option, Some, [], ap, arith, drop, false, get_or, length, map, nat_eq, not, refl, subst, suc, sym, take, true, zero, ℕ, Bool, ◌%◌, ◌*◌, ◌+◌, ◌++◌, ◌-◌, ◌<◌, ◌≤◌, ◌||◌, ◌∙◌, ◌∷◌, ◌≡◌}
+use Rattle.std.proofs.Common.{IsTrue, List, Some, [], ap, arith, drop, false, get_or, length, map, nat_eq, not, refl, subst, suc, sym, take, true, zero, ℕ, Bool, ◌%◌, ◌*◌, ◌+◌, ◌++◌, ◌-◌, ◌<◌, ◌≤◌, ◌||◌, ◌∙◌, ◌∷◌, ◌≡◌}
 use Rattle.std.proofs.lemmas.Bool.{and_from, and_parts, eq-eqb, false≢true, or_parts}
-use Rattle.std.proofs.lemmas.Iterator.Consumers.{YieldsList-end}
-use Rattle.std.proofs.lemmas.Iterator.Splits.{YieldsList-from_slice_split}
 use Rattle.std.proofs.lemmas.List.{drop-map, drop_all, get_or-drop, length-drop, length-map, take_all}
 use Rattle.std.proofs.lemmas.List.Folds.{list_all-map, list_any-append}
 use Rattle.std.proofs.lemmas.Option.{same_Some}
 use Rattle.std.proofs.lemmas.Slice.Eq.{bytes_eq-Decides}
 use Rattle.std.proofs.lemmas.Str.Ascii.{lowercase-lowercase}
-use Rattle.std.specs.Borrow.{Bor}
 use Rattle.std.specs.Char.{to_ascii_lowercase}
-use Rattle.std.specs.Fn.{CalledAt}
-use Rattle.std.specs.Iterator.{Yields}
-use Rattle.std.specs.List.{list_all, list_any, slice_split}
+use Rattle.std.specs.List.{list_all, list_any}
 use Rattle.std.specs.Prelude.{codes, slice_get}
-use Rattle.std.specs.Slice.Iter as slice
-use Rattle.std.specs.declared.slice.Split.{Split}
-use denote.Param.Members.{Mut}
 use Rattle.std.specs.Str.{bytes_eq}
 use Rattle.tl_dom_spec.specs.Path as dom
 use Rattle.tl_dom_spec.specs.Tags.{Namespace, Tag, by_space, html_space, is_any, is_html, is_item_bound, is_math_mark, is_named, is_special, is_special_name, is_svg_mark, math_space, svg_space}
@@ -281,11 +273,6 @@ any-called names f h = (and_parts (is_html f.tag) (is_one_of names f.tag.name) h
 pub none-called : (names : List ℕ) (p : FramePath) (n : ℕ) → IsTrue (none_from (is_called (words names)) p n) → IsTrue (none_from (dom.has_tag (is_any names)) p n)
 none-called names p n h =
     none-weaker (is_called (words names)) (dom.has_tag (is_any names)) (any-called names) p n h
-
--- the pieces that a loop over the parts of bytes was given, where it has come to its end
-pub pieces-given : {F : Type 0} (g : Mut F (Bor ℕ × Unit {0}) Bool) (s : Split ℕ F) (xs : List (Bor (List ℕ))) (t : Split ℕ F) → Yields (slice.split_steps g) s xs t → (r : Option (Bor (List ℕ))) (u : Split ℕ F) → r ≡ None → slice.split_steps g t r u → (p : ℕ → Bool) (all : List ℕ) (f : F) → slice.split_rest s ≡ all → slice.split_done s ≡ false → slice.split_callee s ≡ f → ((x : ℕ) (b : Bool) (q : F) → CalledAt g f x b q → (q ≡ f) × (b ≡ p x)) → map (λ (part : Bor (List ℕ)). part.now) xs ≡ slice_split p all
-pieces-given g s xs t y r u none last p all f rest more callee asks =
-    (YieldsList-end (YieldsList-from_slice_split {s = s} g p all rest more callee asks) xs t y r u none last).0
 
 -- Special elements: where `search` isn't counted as one, they are special where it is
 

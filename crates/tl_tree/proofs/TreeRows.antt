@@ -15,7 +15,7 @@ use Rattle.tl_tree.proofs.Within.{lt-more}
 use Rattle.tl_tree.specs.Inner.Lists.{in_list}
 use Rattle.tl_tree.specs.Inner.RowView.{are_in_order, bytes_in, held_in, held_is_within, parent_of, row_in, row_is_within}
 use Rattle.tl_tree.specs.Inner.Settling.{AreRowsOf, sizes_with, text_with}
-use Rattle.tl_tree.specs.Inner.Store.{Grows, attribute_space_of, bytes_of, doctype_at, doctype_of, nodes_of, sizes_of, space_of, tag_at, tag_of, text_of}
+use Rattle.tl_tree.specs.Inner.Store.{Grows, attribute_space_of, bytes_of, doctype_at, doctype_of, nodes_of, sizes_of, source_of, space_of, tag_at, tag_of, text_of}
 use Rattle.tl_tree.specs.Inner.Within.{Sizes, span_is_within}
 use Rattle.tl_tree.specs.Rows as rows
 use Rattle.tl_tree.specs.declared.attribute_lists.AttributeLists.{AttributeLists}
@@ -37,6 +37,7 @@ tag-part text attributes tags n =
       space = space_of t.space;
       name = bytes_in text t.name;
       attributes = map (λ (a : AttributeEntry). record { space = attribute_space_of a.space; key = bytes_in text a.key; value = bytes_in text a.value }) (take t.attribute_count (drop t.first_attribute (in_list attributes t.list)));
+      source = source_of t.start;
     }) tags) n (dom.bare_tag [])
 
 tag-parts : (s : Store) (n : ℕ) → tag_at s n ≡ tag-part (text_of s) s.attributes s.tags.items n

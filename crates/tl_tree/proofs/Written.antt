@@ -6,6 +6,7 @@ use Rattle.std.proofs.lemmas.List.{length-map, length-reverse}
 use Rattle.std.specs.List.{list_all}
 use Rattle.tl_dom_spec.specs.Path as dom
 use Rattle.tl_dom_spec.specs.Tags as tags
+use Rattle.tl_names.specs.declared.element_name.TheConstants.ElementName.{OTHER}
 use Rattle.tl_tree.proofs.Grown.{grows_trans, node-element, node-grown, node-joined, nodes-grown, nodes-none, tag-at-grown}
 use Rattle.tl_tree.proofs.Heads.{at-head-none, at-head-twice}
 use Rattle.tl_tree.proofs.Listed.{begins-longer, map-same, map-take}
@@ -141,7 +142,7 @@ folded-within s t g f row h k =
     let cells = begins-longer s.cells.items t.cells.items g.cells in
     of-parts t (record f { children = row; late = 0 }) (omega arith) (leb-true row (length t.cells.items) k) (omega arith) (omega arith)
 
-ready-folded : (s : Store) (f : Frame) (nodes : dom.Nodes) → f.late ≡ 0 → dom.at_head (dom.joined (nodes_of s f.children) nodes) (nodes_of s f.late) ≡ dom.joined (children_of s f) nodes
+pub ready-folded : (s : Store) (f : Frame) (nodes : dom.Nodes) → f.late ≡ 0 → dom.at_head (dom.joined (nodes_of s f.children) nodes) (nodes_of s f.late) ≡ dom.joined (children_of s f) nodes
 ready-folded s f nodes e =
     late-none s (dom.joined (nodes_of s f.children) nodes) f.late e
     ∙ ap (λ (own : dom.Nodes). dom.joined own nodes) (sym (late-none s (nodes_of s f.children) f.late e))
@@ -228,7 +229,7 @@ caught-up-none p i f is h e =
     (nothing-waits (frame_of p.store f) (ap (nodes_of p.store) e ∙ nodes-none p.store)))
 
 -- The document alone
-pub path-new : (p : FramePath) (s : Store) (tag : ℕ) (none : List Frame) → none ≡ [] → p.frames.items ≡ none ++ record { number = 0; tag = tag; children = 0; late = 0; waiting = 0; place = Here; is_open = false } ∷ [] → tag_at p.store tag ≡ tag_of s (record { space = Html; name = record { start = 0; len = 0 }; known = 0; list = Tags; first_attribute = 0; attribute_count = 0 }) → path_of p ≡ dom.document ∷ []
+pub path-new : (p : FramePath) (s : Store) (tag : ℕ) (none : List Frame) → none ≡ [] → p.frames.items ≡ none ++ record { number = 0; tag = tag; children = 0; late = 0; waiting = 0; place = Here; is_open = false } ∷ [] → tag_at p.store tag ≡ tag_of s (record { space = Html; name = record { start = 0; len = 0 }; known = OTHER; list = Tags; first_attribute = 0; attribute_count = 0; start = 0 }) → path_of p ≡ dom.document ∷ []
 unfolding frames_of tag_of bytes_of
 path-new p s tag none is e t =
     ap (λ frames. reverse (map (frame_of p.store) frames)) (e ∙ ap (λ (frames : List Frame). frames ++ record { number = 0; tag = tag; children = 0; late = 0; waiting = 0; place = Here; is_open = false } ∷ []) is)

@@ -1,5 +1,5 @@
 -- The element that a fragment is read in, in words of `tl_dom_spec`.
-use Rattle.std.specs.Prelude.{List, map, ℕ}
+use Rattle.std.specs.Prelude.{List, None, map, ℕ}
 use Rattle.std.specs.Borrow.{Bor}
 use Rattle.tl_dom_spec.specs.HtmlTree as dom
 use Rattle.tl_dom_spec.specs.Tags.{Attribute, Tag, plain_attribute}
@@ -15,6 +15,7 @@ tag_in c = record {
   space = space_of c.namespace;
   name = c.name.now;
   attributes = map attribute_in c.attributes.now;
+  source = None;
 }
 
 abbrev pub context_of : Context → dom.Context

@@ -7,6 +7,7 @@ pub mod RowView
 pub mod Settling
 pub mod Seating
 pub mod Framed
+pub mod NameLists
 pub mod Tests
 pub mod Frames
 pub mod Heads
@@ -19,7 +20,9 @@ pub mod Scoped
 pub mod Said
 pub mod Foreign
 pub mod ActiveWithin
+pub mod Looks
 pub mod Active
+pub mod Tallied
 pub mod Modes
 pub mod GroupNames
 pub mod BodyGroups
@@ -28,6 +31,7 @@ pub mod Known
 pub mod Limits
 pub mod Builders
 pub mod Reading
+pub mod Sourced
 pub mod Resets
 pub mod Taking
 pub mod Reopening

@@ -3,4 +3,5 @@ pub mod Rows
 pub mod TreeView
 pub mod Asked
 pub mod Contexts
+pub mod Sources
 pub mod Examples

@@ -11,13 +11,19 @@ ghost use Rattle.tl_tree.specs.Inner.ActiveWithin.{are_distinct, entry_is_within
 use crate::active_entry::{Alike, Entry, Listed};
 use crate::alike::{is_alike, is_named};
 use crate::error::GrowError;
+use crate::look::{Key, key_of, read_on};
+use crate::path::FramePath;
 use crate::store::Store;
+use crate::tally::Tally;
 use std::alloc::Global;
 
 /// The list, with the latest entry last.
 #[derive(Drop)]
 pub(crate) struct ActiveList {
     entries: Vec<Entry>,
+    /// How many elements look the same, and have the same name, at most.
+    looks: Tally,
+    names: Tally,
     pub(crate) greatest_number: u32,
     pub(crate) greatest_tag: u32,
     ghost within: { IsTrue
@@ -28,14 +34,15 @@ pub(crate) struct ActiveList {
 impl ActiveList {
     ghost use Rattle.std.specs.List.{insert, list_any, remove};
     ghost use Rattle.std.specs.Option.{option_map};
-    ghost use Rattle.std.specs.Prelude.{IfSome, IsNone, None, OnOk, [], false, length, slice_index_or, slice_set, take, ℕ, ◌<◌, ◌≡◌, ◌≤◌, ◌∷◌};
+    ghost use Rattle.std.specs.Prelude.{IfSome, IsNone, None, OnOk, [], false, length, slice_index_or, slice_set, take, true, ℕ, ◌<◌, ◌≡◌, ◌≤◌, ◌∷◌};
     ghost use Rattle.tl_dom_spec.specs.Builder.{formatting, marker, without_last_marker};
-    ghost use Rattle.tl_dom_spec.specs.Formatting.{is_listed, listed, listed_behind, relisted, unlisted, with_room};
+    ghost use Rattle.tl_dom_spec.specs.Formatting.{alike_count, is_listed, listed, listed_behind, relisted, unlisted, with_room};
     ghost use Rattle.tl_tree.specs.Inner.Active.{AreAlike, IsLatest, active_of, listed_of, seen};
     ghost use Rattle.tl_tree.specs.Inner.ActiveWithin.{is_of};
     ghost use Rattle.tl_tree.specs.Inner.AtRest.{latest_of};
+    ghost use Rattle.tl_tree.specs.Inner.Tallied.{IsTallied, is_tagged};
     ghost use Rattle.tl_tree.specs.Inner.Store.{is_tag_number, tag_at};
-    ghost use Rattle.tl_tree.specs.declared.active_entry.Entry.TheVariants.{Formatting};
+    ghost use Rattle.tl_tree.specs.declared.active_entry.Entry.TheVariants.{Formatting, Marker};
     ghost use Rattle.tl_tree.specs.declared.store.Store.{Store};
 
     /// An empty list.
@@ -43,9 +50,12 @@ impl ActiveList {
         ensures active { (s : Store) → active_of s result ≡ [] }
         ensures number { result.greatest_number ≡ 0 }
         ensures tag { result.greatest_tag ≡ 0 }
+        ensures tallied { (s : Store) → IsTallied s result }
     {
         ActiveList {
             entries: Vec::new(alloc),
+            looks: Tally::new(alloc),
+            names: Tally::new(alloc),
             greatest_number: 0,
             greatest_tag: 0,
         }
@@ -88,13 +98,28 @@ impl ActiveList {
         }
     }
 
+    // Whether it is known that no element has a name.
+    fn is_unnamed(&self, name: &[u8]) -> bool
+        ensures { (s : Store) → result ≡ true → IsTallied s self.now
+            → listed name.now (active_of s self.now) ≡ None }
+    {
+        if !self.names.has_counts() {
+            return false;
+        }
+        self.names.most(read_on(0, name)) == 0
+    }
+
     /// The latest element of a name after the last marker.
     pub(crate) fn listed(&self, store: &Store<'_>, name: &[u8]) -> Option<Listed>
-        requires { self.now.greatest_tag < length store.now.tags.items }
+        requires tags { self.now.greatest_tag < length store.now.tags.items }
+        requires tallied { IsTallied store.now self.now }
         ensures stands { option_map (listed_of store.now) result
             ≡ listed name.now (active_of store.now self.now) }
         ensures within { IfSome result (λ own. own.tag ≤ self.now.greatest_tag) }
     {
+        if self.is_unnamed(name) {
+            return None;
+        }
         let mut left = self.entries.len();
         while left > 0 {
             left -= 1;
@@ -110,42 +135,70 @@ impl ActiveList {
     }
 
     // An entry is put at a place.
-    fn put(&mut self, place: usize, number: u32, tag: u32) -> Result<(), GrowError>
+    fn put(
+        &mut self,
+        path: &FramePath<'_>,
+        place: usize,
+        number: u32,
+        tag: u32,
+    ) -> Result<(), GrowError>
         requires place { place ≤ length self.old.entries.items }
         requires number { self.old.greatest_number < number }
+        requires listed { self.old.greatest_tag < length path.now.store.tags.items }
+        requires own { tag < length path.now.store.tags.items }
         ensures entries { OnOk result
             (self.new.entries.items
             ≡ insert self.old.entries.items place (Formatting number tag)) }
         ensures number { self.new.greatest_number ≤ number }
         ensures tag { (n : ℕ) → self.old.greatest_tag < n → tag < n → self.new.greatest_tag < n }
+        ensures tallied { IsTallied path.now.store self.old → IsTallied path.now.store self.new }
     {
         self.entries
             .insert(place, Entry::Formatting { number, tag })?;
         self.greatest_number = number;
         self.greatest_tag = self.greatest_tag.max(tag);
+        self.looks.add(&path.store, Key::Look, tag);
+        self.names.add(&path.store, Key::Name, tag);
+        self.looks.recount(&path.store, Key::Look, &self.entries);
+        self.names.recount(&path.store, Key::Name, &self.entries);
         Ok(())
     }
 
     /// The entry of a place is taken out.
-    pub(crate) fn remove(&mut self, place: usize)
-        requires { place < length self.old.entries.items }
+    pub(crate) fn remove(&mut self, path: &FramePath<'_>, place: usize)
+        requires place { place < length self.old.entries.items }
+        requires listed { self.old.greatest_tag < length path.now.store.tags.items }
         ensures entries { self.new.entries.items ≡ remove self.old.entries.items place }
         ensures number { self.new.greatest_number ≡ self.old.greatest_number }
         ensures tag { self.new.greatest_tag ≡ self.old.greatest_tag }
+        ensures tallied { IsTallied path.now.store self.old → IsTallied path.now.store self.new }
     {
-        self.entries.remove(place);
+        let entry = self.entries.remove(place);
+        let Entry::Formatting { tag, .. } = entry else {
+            return;
+        };
+        self.looks.take(&path.store, Key::Look, tag);
+        self.names.take(&path.store, Key::Name, tag);
     }
 
     /// An element is listed. Its number is greater than those that were listed before.
-    pub(crate) fn push(&mut self, number: u32, tag: u32) -> Result<(), GrowError>
-        requires { self.old.greatest_number < number }
+    pub(crate) fn push(
+        &mut self,
+        path: &FramePath<'_>,
+        number: u32,
+        tag: u32,
+    ) -> Result<(), GrowError>
+        requires number { self.old.greatest_number < number }
+        requires listed { self.old.greatest_tag < length path.now.store.tags.items }
+        requires own { tag < length path.now.store.tags.items }
         ensures active { OnOk result ((s : Store) → active_of s self.new
             ≡ formatting number (tag_at s tag) ∷ active_of s self.old) }
         ensures number { self.new.greatest_number ≤ number }
         ensures tag { (n : ℕ) → self.old.greatest_tag < n → tag < n → self.new.greatest_tag < n }
+        ensures tallied { IsTallied path.now.store self.old → IsTallied path.now.store self.new }
     {
         let place = self.entries.len();
-        self.put(place, number, tag)
+        self.put(path, place, number, tag)
     }
 
     /// A marker is put behind the entries.
@@ -154,22 +207,25 @@ impl ActiveList {
             ((s : Store) → active_of s self.new ≡ marker ∷ active_of s self.old) }
         ensures number { self.new.greatest_number ≡ self.old.greatest_number }
         ensures tag { self.new.greatest_tag ≡ self.old.greatest_tag }
+        ensures tallied { (s : Store) → IsTallied s self.old → IsTallied s self.new }
     {
         self.entries.push(Entry::Marker)?;
         Ok(())
     }
 
     /// The element of a number is listed no more.
-    pub(crate) fn unlist(&mut self, number: u32)
+    pub(crate) fn unlist(&mut self, path: &FramePath<'_>, number: u32)
+        requires { self.old.greatest_tag < length path.now.store.tags.items }
         ensures active { (s : Store) → active_of s self.new
             ≡ unlisted number (active_of s self.old) }
         ensures number { self.new.greatest_number ≡ self.old.greatest_number }
         ensures tag { self.new.greatest_tag ≡ self.old.greatest_tag }
+        ensures tallied { IsTallied path.now.store self.old → IsTallied path.now.store self.new }
     {
         let Some(place) = self.find(number) else {
             return;
         };
-        self.remove(place);
+        self.remove(path, place);
     }
 
     /// How many entries there are.
@@ -189,15 +245,18 @@ impl ActiveList {
         self.entries[place]
     }
 
-    /// An element of a new number stands at a place.
+    /// An element of a new number stands at the place of one that has its tag.
     pub(crate) fn set(&mut self, place: usize, new: u32, tag: u32)
         requires place { place < length self.old.entries.items }
         requires new { self.old.greatest_number < new }
         requires tag { tag ≤ self.old.greatest_tag }
+        requires same { IsTrue
+            (is_tagged tag (slice_index_or self.old.entries.items place Marker)) }
         ensures entries { self.new.entries.items
             ≡ slice_set self.old.entries.items place (Formatting new tag) }
         ensures number { self.new.greatest_number ≡ new }
         ensures tag { self.new.greatest_tag ≡ self.old.greatest_tag }
+        ensures tallied { (s : Store) → IsTallied s self.old → IsTallied s self.new }
     {
         self.entries[place] = Entry::Formatting { number: new, tag };
         self.greatest_number = new;
@@ -210,6 +269,7 @@ impl ActiveList {
             ≡ relisted number new (active_of s self.old) }
         ensures number { self.new.greatest_number ≤ new }
         ensures tag { self.new.greatest_tag ≡ self.old.greatest_tag }
+        ensures tallied { (s : Store) → IsTallied s self.old → IsTallied s self.new }
     {
         let Some(place) = self.find(number) else {
             return;
@@ -222,17 +282,26 @@ impl ActiveList {
     }
 
     /// An element of a new number is listed behind another one, as the later one.
-    pub(crate) fn list_behind(&mut self, number: u32, new: u32, tag: u32) -> Result<(), GrowError>
-        requires { self.old.greatest_number < new }
+    pub(crate) fn list_behind(
+        &mut self,
+        path: &FramePath<'_>,
+        number: u32,
+        new: u32,
+        tag: u32,
+    ) -> Result<(), GrowError>
+        requires new { self.old.greatest_number < new }
+        requires listed { self.old.greatest_tag < length path.now.store.tags.items }
+        requires own { tag < length path.now.store.tags.items }
         ensures active { OnOk result ((s : Store) → active_of s self.new
             ≡ listed_behind number (formatting new (tag_at s tag)) (active_of s self.old)) }
         ensures number { self.new.greatest_number ≤ new }
         ensures tag { (n : ℕ) → self.old.greatest_tag < n → tag < n → self.new.greatest_tag < n }
+        ensures tallied { IsTallied path.now.store self.old → IsTallied path.now.store self.new }
     {
         let Some(place) = self.find(number) else {
             return Ok(());
         };
-        self.put(place + 1, new, tag)
+        self.put(path, place + 1, new, tag)
     }
 
     // How many elements after the last marker are like this one.
@@ -257,11 +326,25 @@ impl ActiveList {
         alike
     }
 
+    // Whether it is known that no three elements are like this one.
+    fn is_rare(&self, store: &Store<'_>, own: u32) -> bool
+        requires own { IsTrue (is_tag_number store.now own) }
+        requires tallied { IsTallied store.now self.now }
+        ensures { result ≡ true
+            → alike_count (tag_at store.now own) (active_of store.now self.now) ≤ 2 }
+    {
+        if !self.looks.has_counts() {
+            return false;
+        }
+        self.looks.most(key_of(store, Key::Look, own)) < 3
+    }
+
     /// The Noah's Ark clause: where there are three elements like this one after the last marker,
     /// the earliest of them is one too many.
     pub(crate) fn surplus(&self, store: &Store<'_>, own: u32) -> Option<usize>
         requires tags { self.now.greatest_tag < length store.now.tags.items }
         requires own { IsTrue (is_tag_number store.now own) }
+        requires tallied { IsTallied store.now self.now }
         ensures within { IfSome result (λ place. place < length self.now.entries.items) }
         ensures some { IfSome result
             (λ place. seen store.now (remove self.now.entries.items place)
@@ -269,6 +352,9 @@ impl ActiveList {
         ensures none { result ≡ None → active_of store.now self.now
             ≡ with_room (tag_at store.now own) (active_of store.now self.now) }
     {
+        if self.is_rare(store, own) {
+            return None;
+        }
         let alike = self.alike(store, own);
         if alike.count > 2 {
             return Some(alike.earliest);
@@ -293,13 +379,18 @@ impl ActiveList {
     }
 
     /// The list is cleared up to the last marker, which goes too.
-    pub(crate) fn clear_to_last_marker(&mut self)
+    pub(crate) fn clear_to_last_marker(&mut self, path: &FramePath<'_>)
+        requires { self.old.greatest_tag < length path.now.store.tags.items }
         ensures active { (s : Store) → active_of s self.new
             ≡ without_last_marker (active_of s self.old) }
         ensures number { self.new.greatest_number ≡ self.old.greatest_number }
         ensures tag { self.new.greatest_tag ≡ self.old.greatest_tag }
+        ensures tallied { IsTallied path.now.store self.old → IsTallied path.now.store self.new }
     {
         let count = self.count_before_marker();
-        self.entries.truncate(count);
+        while self.entries.len() > count {
+            let last = self.entries.len() - 1;
+            self.remove(path, last);
+        }
     }
 }

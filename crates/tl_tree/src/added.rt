@@ -1,5 +1,5 @@
 //! What is put in the store of a path: bytes, and what tokens of the page say.
-ghost use Rattle.std.specs.Prelude.{Bool, IfOk, IsTrue, List, [], length, ◌<◌, ◌≡◌, ◌≤◌, ◌∷◌, ℕ};
+ghost use Rattle.std.specs.Prelude.{Bool, IfOk, IsTrue, List, Some, [], length, ◌<◌, ◌≡◌, ◌≤◌, ◌∷◌, ℕ};
 ghost use Rattle.tl_dom_spec.specs.Tags.{html_tag};
 ghost use Rattle.tl_html_spec.specs.HtmlTokenizer.{HtmlAttribute, StartTag};
 ghost use Rattle.tl_html_tokens.specs.Characters.{characters_of};
@@ -10,7 +10,7 @@ ghost use Rattle.tl_tree.specs.Inner.Said.{piece_at};
 ghost use Rattle.tl_tree.specs.Inner.Frames.{path_of};
 ghost use Rattle.tl_tree.specs.Inner.Store.{Grows, bytes_of, doctype_at, doctype_of, is_doctype, is_span, tag_at};
 
-use crate::entries::{AttributeEntry, DoctypeEntry};
+use crate::entries::{AttributeEntry, DoctypeEntry, TagEntry};
 use crate::error::GrowError;
 use crate::path::FramePath;
 use crate::said::{comment_data, start_tag, text};
@@ -29,13 +29,14 @@ pub(crate) struct AddedTag {
 }
 
 impl<'a> Store<'a> {
-    // Puts a start tag of the page in the store.
+    // Puts a start tag of the page in the store, with its number among those of the page.
     fn add_start_tag(
         &mut self,
         alloc: Global,
         room: &mut Vec<AttributeEntry>,
         start: usize,
         end: usize,
+        source: u32,
     ) -> Result<AddedTag, GrowError>
         requires order { start ≤ end }
         requires within { end ≤ length self.old.page.now }
@@ -43,7 +44,8 @@ impl<'a> Store<'a> {
             (attributes : List HtmlAttribute) (closes : Bool) →
             IsWhole mode (piece_at self.old.page.now start end)
             (StartTag name attributes closes ∷ []) →
-            tag_at self.new added.number ≡ html_tag name attributes) }
+            tag_at self.new added.number
+            ≡ record (html_tag name attributes) { source = Some source }) }
         ensures closes { IfOk result (λ added. (mode : Mode) (name : List ℕ)
             (attributes : List HtmlAttribute) (closes : Bool) →
             IsWhole mode (piece_at self.old.page.now start end)
@@ -54,7 +56,13 @@ impl<'a> Store<'a> {
         ensures grows { Grows self.old self.new }
     {
         let said = start_tag(self, alloc, room, start, end)?;
-        let number = self.add_tag(said.tag)?;
+        let Some(next) = source.checked_add(1) else {
+            return Err(GrowError::TooLarge);
+        };
+        let number = self.add_tag(TagEntry {
+            start: next,
+            ..said.tag
+        })?;
         Ok(AddedTag {
             number,
             closes: said.closes,
@@ -111,13 +119,14 @@ impl<'a> FramePath<'a> {
         self.store.add_doctype(doctype)
     }
 
-    /// Puts a start tag of the page in the store.
+    /// Puts a start tag of the page in the store, with its number among those of the page.
     pub(crate) fn add_start_tag(
         &mut self,
         alloc: Global,
         room: &mut Vec<AttributeEntry>,
         start: usize,
         end: usize,
+        source: u32,
     ) -> Result<AddedTag, GrowError>
         requires order { start ≤ end }
         requires within { end ≤ length self.old.store.page.now }
@@ -125,7 +134,8 @@ impl<'a> FramePath<'a> {
             (attributes : List HtmlAttribute) (closes : Bool) →
             IsWhole mode (piece_at self.old.store.page.now start end)
             (StartTag name attributes closes ∷ []) →
-            tag_at self.new.store added.number ≡ html_tag name attributes) }
+            tag_at self.new.store added.number
+            ≡ record (html_tag name attributes) { source = Some source }) }
         ensures closes { IfOk result (λ added. (mode : Mode) (name : List ℕ)
             (attributes : List HtmlAttribute) (closes : Bool) →
             IsWhole mode (piece_at self.old.store.page.now start end)
@@ -137,7 +147,7 @@ impl<'a> FramePath<'a> {
         ensures next { self.new.next ≡ self.old.next }
         ensures grows { Grows self.old.store self.new.store }
     {
-        self.store.add_start_tag(alloc, room, start, end)
+        self.store.add_start_tag(alloc, room, start, end, source)
     }
 
     /// The characters of a text of the page, which is read in this mode, as bytes of the store.

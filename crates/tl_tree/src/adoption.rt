@@ -8,6 +8,7 @@ ghost use Rattle.tl_tree.specs.Inner.Active.{active_of, listed_of};
 ghost use Rattle.tl_tree.specs.Inner.Adopted.{AreMade, IsAdopted, IsFirst, IsNear, clones_in, frame_at, none_cloned, with_element};
 ghost use Rattle.tl_tree.specs.Inner.Frames.{frames_of, path_of};
 ghost use Rattle.tl_tree.specs.Inner.Store.{Grows, tag_at};
+ghost use Rattle.tl_tree.specs.Inner.Tallied.{IsTallied};
 ghost use Rattle.tl_tree.specs.declared.store.Store.{Store};
 
 use crate::active::ActiveList;
@@ -62,6 +63,8 @@ fn clone_at(
     requires few { between.seen + index < block }
     requires made { between.made ≤ between.seen }
     requires numbered { active.old.greatest_number < path.old.next }
+    requires listed { active.old.greatest_tag < length path.old.store.tags.items }
+    requires tallied { IsTallied path.old.store active.old }
     ensures ok { IfOk result (λ after. (fs : List dom.Frame) → AreMade block path.old path.new
         (cloned between.seen (with_element (frame_at path.old index) fs)
         (active_of path.old.store active.old) path.old.next)
@@ -74,6 +77,7 @@ fn clone_at(
     ensures more { path.old.next ≤ path.new.next }
     ensures numbered { active.new.greatest_number < path.new.next }
     ensures tag { active.new.greatest_tag ≡ active.old.greatest_tag }
+    ensures tallied { IsTallied path.new.store active.new }
 {
     let frame = path.frames[index];
     if !frame.is_open {
@@ -83,7 +87,7 @@ fn clone_at(
         return Ok(between.passed());
     }
     if between.seen > 2 {
-        active.unlist(frame.number);
+        active.unlist(path, frame.number);
         return Ok(between.passed());
     }
     let number = path.next;
@@ -110,6 +114,8 @@ fn add_clones(
 ) -> Result<usize, GrowError>
     requires block { block ≤ length path.old.frames.items }
     requires numbered { active.old.greatest_number < path.old.next }
+    requires listed { active.old.greatest_tag < length path.old.store.tags.items }
+    requires tallied { IsTallied path.old.store active.old }
     ensures ok { IfOk result (λ made. AreMade block path.old path.new
         (cloned 0 (elements (inside_of number (reverse (take block (frames_of path.old)))))
         (active_of path.old.store active.old) path.old.next)
@@ -118,6 +124,7 @@ fn add_clones(
     ensures more { path.old.next ≤ path.new.next }
     ensures numbered { active.new.greatest_number < path.new.next }
     ensures tag { active.new.greatest_tag ≡ active.old.greatest_tag }
+    ensures tallied { IsTallied path.new.store active.new }
 {
     let mut between = Between { seen: 0, made: 0 };
     let mut left = block;
@@ -134,26 +141,31 @@ fn add_clones(
 // The new element is listed where the formatting element was, or behind the clone that was made
 // first.
 fn list_new(
+    path: &FramePath<'_>,
     active: &mut ActiveList,
     own: Listed,
     new: u32,
     made: usize,
     first: u32,
 ) -> Result<(), GrowError>
-    requires { active.old.greatest_number < new }
+    requires new { active.old.greatest_number < new }
+    requires listed { active.old.greatest_tag < length path.now.store.tags.items }
+    requires own { own.tag < length path.now.store.tags.items }
+    requires tallied { IsTallied path.now.store active.old }
     ensures active { OnOk result ((s : Store) (clones : dom.Path)
         → made ≡ length clones → IsFirst first clones → active_of s active.new
         ≡ entry_moved own.number new (tag_at s own.tag) clones (active_of s active.old)) }
     ensures number { active.new.greatest_number ≤ new }
     ensures tag { (n : ℕ) →
         active.old.greatest_tag < n → own.tag < n → active.new.greatest_tag < n }
+    ensures tallied { IsTallied path.now.store active.new }
 {
     if made == 0 {
         active.relist(own.number, new);
         return Ok(());
     }
-    active.unlist(own.number);
-    active.list_behind(first, new, own.tag)
+    active.unlist(path, own.number);
+    active.list_behind(path, first, new, own.tag)
 }
 
 // A round where the formatting element stands right inside of a place, and the block right inside
@@ -170,6 +182,7 @@ fn adopt_near(
     requires numbered { active.old.greatest_number < path.old.next }
     requires listed { active.old.greatest_tag < length path.old.store.tags.items }
     requires own { own.tag < length path.old.store.tags.items }
+    requires tallied { IsTallied path.old.store active.old }
     ensures ok { IfOk result (λ made.
         IsAdopted false (listed_of path.old.store own) (frame_at path.old (place + 2))
         (clones_in (listed_of path.old.store own) (frame_at path.old (place + 2))
@@ -178,6 +191,7 @@ fn adopt_near(
     ensures more { path.old.next ≤ path.new.next }
     ensures numbered { active.new.greatest_number < path.new.next }
     ensures listed { active.new.greatest_tag < length path.old.store.tags.items }
+    ensures tallied { IsTallied path.new.store active.new }
     ensures grows { Grows path.old.store path.new.store }
 {
     let new = path.next;
@@ -200,6 +214,7 @@ fn adopt_far(
     requires numbered { active.old.greatest_number < path.old.next }
     requires listed { active.old.greatest_tag < length path.old.store.tags.items }
     requires own { own.tag < length path.old.store.tags.items }
+    requires tallied { IsTallied path.old.store active.old }
     ensures ok { IfOk result (λ made.
         IsAdopted is_fostering (listed_of path.old.store own) (frame_at path.old block)
         (clones_in (listed_of path.old.store own) (frame_at path.old block) (path_of path.old)
@@ -208,6 +223,7 @@ fn adopt_far(
     ensures more { path.old.next ≤ path.new.next }
     ensures numbered { active.new.greatest_number < path.new.next }
     ensures listed { active.new.greatest_tag < length path.old.store.tags.items }
+    ensures tallied { IsTallied path.new.store active.new }
     ensures grows { Grows path.old.store path.new.store }
 {
     let ancestor = path.common_ancestor(own.number);
@@ -215,7 +231,7 @@ fn adopt_far(
     let made = add_clones(path, active, block, own.number)?;
     let new = path.next;
     path.renew(block + made, own.tag)?;
-    list_new(active, own, new, made, first)?;
+    list_new(path, active, own, new, made, first)?;
     path.settle_outside(block, ancestor, is_fostering)?;
     path.enter_frames()?;
     Ok(made)
@@ -235,6 +251,7 @@ pub(crate) fn adopt(
     requires numbered { active.old.greatest_number < path.old.next }
     requires listed { active.old.greatest_tag < length path.old.store.tags.items }
     requires own { own.tag < length path.old.store.tags.items }
+    requires tallied { IsTallied path.old.store active.old }
     ensures ok { IfOk result (λ made.
         IsAdopted is_fostering (listed_of path.old.store own) (frame_at path.old block)
         (clones_in (listed_of path.old.store own) (frame_at path.old block) (path_of path.old)
@@ -243,6 +260,7 @@ pub(crate) fn adopt(
     ensures more { path.old.next ≤ path.new.next }
     ensures numbered { active.new.greatest_number < path.new.next }
     ensures listed { active.new.greatest_tag < length path.old.store.tags.items }
+    ensures tallied { IsTallied path.new.store active.new }
     ensures grows { Grows path.old.store path.new.store }
 {
     match path.near_ancestor(block, own.number, is_fostering) {

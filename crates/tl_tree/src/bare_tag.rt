@@ -8,6 +8,7 @@ use crate::entries::{AttributeList, Namespace, TagEntry};
 use crate::error::GrowError;
 use crate::path::FramePath;
 use crate::store::Store;
+use tl_names::element_name::ElementName;
 
 impl<'a> Store<'a> {
     /// Puts the tag of such an element behind the others, and answers its number.
@@ -20,10 +21,11 @@ impl<'a> Store<'a> {
         self.add_tag(TagEntry {
             space: Namespace::Html,
             name,
-            known: 0,
+            known: ElementName::OTHER,
             list: AttributeList::Tags,
             first_attribute: 0,
             attribute_count: 0,
+            start: 0,
         })
     }
 }

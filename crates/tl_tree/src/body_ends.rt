@@ -8,6 +8,7 @@ ghost use Rattle.tl_tree.specs.Inner.Builders.{builder_of, outcome_of, token_of}
 use crate::builder::Builder;
 use crate::error::GrowError;
 use crate::mode::Mode;
+use crate::names::Names;
 use crate::outcome::Outcome;
 use crate::test::TagTest;
 
@@ -20,7 +21,7 @@ impl<'a> Builder<'a> {
             else builder_of self.old)) }
         ensures token { token_of self.new ≡ token_of self.old }
     {
-        if self.has_in_scope(TagTest::Any(b"body")) {
+        if self.has_in_scope(TagTest::Any(Names::Body)) {
             self.switch_to(Mode::AfterBody);
         }
         Ok(())
@@ -34,7 +35,7 @@ impl<'a> Builder<'a> {
             else Done (builder_of self.old))) }
         ensures token { token_of self.new ≡ token_of self.old }
     {
-        if !self.has_in_scope(TagTest::Any(b"body")) {
+        if !self.has_in_scope(TagTest::Any(Names::Body)) {
             return Ok(Outcome::Done);
         }
         self.switch_to(Mode::AfterBody);
@@ -48,7 +49,7 @@ impl<'a> Builder<'a> {
             else insert_implied (codes "p") (builder_of self.old))) }
         ensures token { token_of self.new ≡ token_of self.old }
     {
-        if self.has_in_button_scope(TagTest::Any(b"p")) {
+        if self.has_in_button_scope(TagTest::Any(Names::Paragraph)) {
             return Ok(());
         }
         self.insert_implied(b"p")
@@ -59,17 +60,20 @@ impl<'a> Builder<'a> {
         ensures token { token_of self.new ≡ token_of self.old }
     {
         self.p_implied()?;
-        self.close_except_for(TagTest::Any(b"p"), TagTest::Any(b"p"))
+        self.close_except_for(
+            TagTest::Any(Names::Paragraph),
+            TagTest::Any(Names::Paragraph),
+        )
     }
 
     pub(crate) fn item_ended(&mut self) -> Result<(), GrowError>
         ensures ok { OnOk result (builder_of self.new ≡ item_ended (builder_of self.old)) }
         ensures token { token_of self.new ≡ token_of self.old }
     {
-        if !self.has_in_list_item_scope(TagTest::Any(b"li")) {
+        if !self.has_in_list_item_scope(TagTest::Any(Names::Li)) {
             return Ok(());
         }
-        self.close_except_for(TagTest::Any(b"li"), TagTest::Any(b"li"))
+        self.close_except_for(TagTest::Any(Names::Li), TagTest::Any(Names::Li))
     }
 
     pub(crate) fn mark_ended(&mut self, name: &[u8]) -> Result<(), GrowError>
@@ -90,7 +94,7 @@ impl<'a> Builder<'a> {
         ensures token { token_of self.new ≡ token_of self.old }
     {
         if self.has_template() {
-            return self.close_in_scope(TagTest::Nothing, TagTest::Any(b"form"));
+            return self.close_in_scope(TagTest::Nothing, TagTest::Any(Names::Form));
         }
         let form = self.form();
         self.set_form(None);

@@ -119,7 +119,7 @@ impl<'a> Builder<'a> {
             } }
         ensures token { token_of self.new ≡ token_of self.old }
     {
-        self.active.unlist(number);
+        self.active.unlist(&self.path, number);
     }
 
     /// An element leaves the stack, from between others too.

@@ -15,6 +15,7 @@ use crate::builder::Builder;
 use crate::entries::Namespace;
 use crate::error::GrowError;
 use crate::mode::Mode;
+use crate::names::Names;
 use crate::test::TagTest;
 
 impl<'a> Builder<'a> {
@@ -173,7 +174,7 @@ impl<'a> Builder<'a> {
             (close_in_scope no_tag (is_any (codes "button")) (builder_of self.old))))) }
         ensures token { token_of self.new ≡ token_of self.old }
     {
-        self.close_in_scope(TagTest::Nothing, TagTest::Any(b"button"))?;
+        self.close_in_scope(TagTest::Nothing, TagTest::Any(Names::Button))?;
         self.ordinary_start()?;
         self.frameset_not_ok();
         Ok(())
@@ -303,7 +304,7 @@ impl<'a> Builder<'a> {
             else input_inserted (token_of self.old).tag (builder_of self.old)) }
         ensures token { token_of self.new ≡ token_of self.old }
     {
-        if self.is_context(TagTest::Any(b"select")) {
+        if self.is_context(TagTest::Any(Names::Select)) {
             return Ok(());
         }
         self.input_inserted()
@@ -314,7 +315,7 @@ impl<'a> Builder<'a> {
             ≡ rule_start (builder_of self.old) (token_of self.old).tag) }
         ensures token { token_of self.new ≡ token_of self.old }
     {
-        if self.has_in_scope(TagTest::Any(b"select")) {
+        if self.has_in_scope(TagTest::Any(Names::Select)) {
             self.generate_implied_end_tags()?;
         }
         self.insert_and_pop()
@@ -385,11 +386,11 @@ impl<'a> Builder<'a> {
             ≡ select_start (builder_of self.old) (token_of self.old).tag) }
         ensures token { token_of self.new ≡ token_of self.old }
     {
-        if self.is_context(TagTest::Any(b"select")) {
+        if self.is_context(TagTest::Any(Names::Select)) {
             return Ok(());
         }
-        if self.has_in_scope(TagTest::Any(b"select")) {
-            return self.pop_until(TagTest::Any(b"select"));
+        if self.has_in_scope(TagTest::Any(Names::Select)) {
+            return self.pop_until(TagTest::Any(Names::Select));
         }
         self.ordinary_start()?;
         self.frameset_not_ok();

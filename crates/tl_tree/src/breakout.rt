@@ -7,8 +7,8 @@ ghost use Rattle.tl_tree.specs.Inner.Store.{is_tag_number, tag_at};
 
 use crate::integration::has_attribute;
 use crate::store::Store;
-use crate::test::{is_of, is_one_of};
 use tl_names::class::Class;
+use tl_names::element_name::ElementName;
 
 // Whether a tag is one of a font.
 fn is_font(store: &Store<'_>, number: u32) -> bool
@@ -16,7 +16,7 @@ fn is_font(store: &Store<'_>, number: u32) -> bool
     ensures { result ≡ is_one_of (codes "font") (tag_at store.now number).name }
 {
     let tag = store.tag(number);
-    is_one_of(b"font", store.bytes(tag.name))
+    tag.known == ElementName::FONT
 }
 
 // Whether the name of a tag is enough.
@@ -25,7 +25,7 @@ fn is_breakout_name(store: &Store<'_>, number: u32) -> bool
     ensures { result ≡ is_one_of breakout_names (tag_at store.now number).name }
 {
     let tag = store.tag(number);
-    is_of(Class::Breakout, store.bytes(tag.name))
+    tag.known.is(Class::Breakout)
 }
 
 // Whether an attribute says how a font looks.

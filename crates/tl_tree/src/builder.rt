@@ -13,6 +13,7 @@ use crate::entries::DoctypeEntry;
 use crate::error::GrowError;
 use crate::frame::{Mark, Place};
 use crate::mode::Mode;
+use crate::names::Names;
 use crate::path::FramePath;
 use crate::span::Span;
 use crate::test::{TagTest, Test};
@@ -60,6 +61,8 @@ pub(crate) struct Builder<'a> {
     pub(crate) added: u32,
     /// By how many these were more than four for each token, where that was most.
     pub(crate) excess: u32,
+    /// How many start tags were taken: the number of the next one.
+    pub(crate) starts: u32,
     pub(crate) flags: Flags,
     /// The tag of the token that is processed, where it is a start tag.
     pub(crate) tag: u32,
@@ -82,7 +85,9 @@ pub(crate) struct Builder<'a> {
         context
         tag
         text
-        doctype },
+        doctype
+        path.store
+        active },
 }
 
 impl<'a> Builder<'a> {
@@ -133,6 +138,7 @@ impl<'a> Builder<'a> {
             tokens: 0,
             added: 0,
             excess: 0,
+            starts: 0,
             flags,
             tag: 0,
             text: nothing,
@@ -236,7 +242,7 @@ impl<'a> Builder<'a> {
         ensures ok { builder_of self.new ≡ clear_to_last_marker (builder_of self.old) }
         ensures token { token_of self.new ≡ token_of self.old }
     {
-        self.active.clear_to_last_marker();
+        self.active.clear_to_last_marker(&self.path);
     }
 
     // What is asked
@@ -272,7 +278,7 @@ impl<'a> Builder<'a> {
     pub(crate) fn has_template(&self) -> bool
         ensures { result ≡ has_template (builder_of self.now) }
     {
-        self.path.has_open(TagTest::Any(b"template"))
+        self.path.has_open(TagTest::Any(Names::Template))
     }
 
     /// Whether an element that passes a test is in scope.
@@ -285,20 +291,19 @@ impl<'a> Builder<'a> {
     pub(crate) fn has_in_button_scope(&self, test: TagTest<'_>) -> bool
         ensures { result ≡ has_in_button_scope (tag_test_of test.entry) (builder_of self.now) }
     {
-        self.path.has_within(test, TagTest::ScopeOr(b"button"))
+        self.path.has_within(test, TagTest::ScopeOr(Names::Button))
     }
 
     pub(crate) fn has_in_list_item_scope(&self, test: TagTest<'_>) -> bool
         ensures { result ≡ has_in_list_item_scope (tag_test_of test.entry) (builder_of self.now) }
     {
-        self.path.has_within(test, TagTest::ScopeOr(b"ol ul"))
+        self.path.has_within(test, TagTest::ScopeOr(Names::Lists))
     }
 
     pub(crate) fn has_in_table_scope(&self, test: TagTest<'_>) -> bool
         ensures { result ≡ has_in_table_scope (tag_test_of test.entry) (builder_of self.now) }
     {
-        self.path
-            .has_within(test, TagTest::Any(b"html table template"))
+        self.path.has_within(test, TagTest::Any(Names::TableScope))
     }
 
     // What is popped

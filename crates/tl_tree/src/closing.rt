@@ -4,10 +4,12 @@ ghost use Rattle.tl_dom_spec.specs.Body.{close_in_scope, close_p, earlier_item, 
 ghost use Rattle.tl_dom_spec.specs.Path.{elements, has_tag, within};
 ghost use Rattle.tl_dom_spec.specs.Tags.{is_any, is_item_bound};
 ghost use Rattle.tl_tree.specs.Inner.Builders.{builder_of, token_of};
+ghost use Rattle.tl_tree.specs.Inner.NameLists.{list_of};
 ghost use Rattle.tl_tree.specs.Inner.Tests.{tag_test_of};
 
 use crate::builder::Builder;
 use crate::error::GrowError;
+use crate::names::Names;
 use crate::test::TagTest;
 
 impl<'a> Builder<'a> {
@@ -15,10 +17,13 @@ impl<'a> Builder<'a> {
         ensures ok { OnOk result (builder_of self.new ≡ close_p (builder_of self.old)) }
         ensures token { token_of self.new ≡ token_of self.old }
     {
-        if !self.has_in_button_scope(TagTest::Any(b"p")) {
+        if !self.has_in_button_scope(TagTest::Any(Names::Paragraph)) {
             return Ok(());
         }
-        self.close_except_for(TagTest::Any(b"p"), TagTest::Any(b"p"))
+        self.close_except_for(
+            TagTest::Any(Names::Paragraph),
+            TagTest::Any(Names::Paragraph),
+        )
     }
 
     /// Closes an element that passes a test, where one is in scope.
@@ -54,7 +59,7 @@ impl<'a> Builder<'a> {
             ≡ ruby_closed (tag_test_of but.entry) (builder_of self.old)) }
         ensures token { token_of self.new ≡ token_of self.old }
     {
-        if !self.has_in_scope(TagTest::Any(b"ruby")) {
+        if !self.has_in_scope(TagTest::Any(Names::Ruby)) {
             return Ok(());
         }
         self.generate_implied_end_tags_except_for(but)
@@ -64,10 +69,10 @@ impl<'a> Builder<'a> {
         ensures ok { OnOk result (builder_of self.new ≡ select_closed (builder_of self.old)) }
         ensures token { token_of self.new ≡ token_of self.old }
     {
-        if !self.has_in_scope(TagTest::Any(b"select")) {
+        if !self.has_in_scope(TagTest::Any(Names::Select)) {
             return Ok(());
         }
-        self.pop_until(TagTest::Any(b"select"))
+        self.pop_until(TagTest::Any(Names::Select))
     }
 
     /// In a `select`, generates implied end tags but for some elements; elsewhere ends an `option`
@@ -77,10 +82,10 @@ impl<'a> Builder<'a> {
             ≡ option_ended (tag_test_of but.entry) (builder_of self.old)) }
         ensures token { token_of self.new ≡ token_of self.old }
     {
-        if self.has_in_scope(TagTest::Any(b"select")) {
+        if self.has_in_scope(TagTest::Any(Names::Select)) {
             return self.generate_implied_end_tags_except_for(but);
         }
-        if !self.is_current(TagTest::Any(b"option")) {
+        if !self.is_current(TagTest::Any(Names::Option)) {
             return Ok(());
         }
         self.pop_current_node()
@@ -98,16 +103,16 @@ impl<'a> Builder<'a> {
         self.reconstruct_formatting()
     }
 
-    // Whether an item of a name is open, with no special element inside but `address`, `div` and
-    // `p`.
-    fn has_item(&self, name: &'static [u8]) -> bool
+    // Whether an item of these names is open, with no special element inside but `address`, `div`
+    // and `p`.
+    fn has_item(&self, names: Names) -> bool
         ensures { result
-            ≡ within (has_tag (is_any name.now))
+            ≡ within (has_tag (is_any (list_of names)))
             (has_tag (is_item_bound (builder_of self.now).flags.counts_search))
             (elements (builder_of self.now).path) }
     {
         let bounds = TagTest::ItemBound(self.flags.counts_search);
-        self.path.has_within(TagTest::Any(name), bounds)
+        self.path.has_within(TagTest::Any(names), bounds)
     }
 
     fn earlier_list_item_closed(&mut self) -> Result<(), GrowError>
@@ -120,7 +125,7 @@ impl<'a> Builder<'a> {
             (builder_of self.old)) }
         ensures token { token_of self.new ≡ token_of self.old }
     {
-        if !self.has_item(b"li") {
+        if !self.has_item(Names::Li) {
             return Ok(());
         }
         self.close_except_for(TagTest::Named(b"li"), TagTest::Named(b"li"))
@@ -136,10 +141,10 @@ impl<'a> Builder<'a> {
             (builder_of self.old)) }
         ensures token { token_of self.new ≡ token_of self.old }
     {
-        if self.has_item(b"dd") {
+        if self.has_item(Names::Dd) {
             return self.close_except_for(TagTest::Named(b"dd"), TagTest::Named(b"dd"));
         }
-        if !self.has_item(b"dt") {
+        if !self.has_item(Names::Dt) {
             return Ok(());
         }
         self.close_except_for(TagTest::Named(b"dt"), TagTest::Named(b"dt"))

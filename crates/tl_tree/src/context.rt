@@ -8,8 +8,10 @@ ghost use Rattle.tl_tree.specs.Inner.Builders.{flags_of};
 
 use crate::builder::Flags;
 use crate::entries::Namespace;
+use crate::names::Names;
 use crate::test::{is_any, is_one_of};
 use tl_html_tokens::Mode;
+use tl_names::element_name::ElementName;
 use tl_names::elements::{RAWTEXT_NAMES, RCDATA_NAMES};
 use tl_names::is_among;
 
@@ -32,7 +34,7 @@ impl<'c> Context<'c> {
     pub(crate) fn is_template(&self) -> bool
         ensures { result ≡ is_template (tag_in self.now) }
     {
-        is_any(b"template", self.namespace, self.name)
+        is_any(Names::Template, self.namespace, ElementName::of(self.name))
     }
 
     // Whether its text has no markup and no references, where it is an element of HTML.

@@ -14,6 +14,7 @@ use crate::entries::{AttributeEntry, AttributeList, AttributeSpace, TagEntry};
 use crate::error::GrowError;
 use crate::path::FramePath;
 use crate::store::Store;
+use tl_names::element_name::ElementName;
 
 // Puts an attribute behind the others.
 fn add_attribute(store: &mut Store<'_>, key: &[u8], value: &[u8]) -> Result<(), GrowError>
@@ -61,10 +62,11 @@ impl<'a> Store<'a> {
         self.add_tag(TagEntry {
             space: context.namespace,
             name,
-            known: 0,
+            known: ElementName::OTHER,
             list: AttributeList::Tags,
             first_attribute,
             attribute_count,
+            start: 0,
         })
     }
 }

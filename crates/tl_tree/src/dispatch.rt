@@ -16,7 +16,6 @@ use crate::integration::{
 };
 use crate::mode::Mode;
 use crate::outcome::Outcome;
-use crate::test::is_of;
 use crate::token::Token;
 use tl_names::class::Class;
 
@@ -53,7 +52,7 @@ impl<'a> Builder<'a> {
         ensures { result ≡ is_one_of (codes "mglyph malignmark") (token_of self.now).tag.name }
     {
         let own = self.path.store.tag(self.tag);
-        is_of(Class::MathGlyph, self.path.store.bytes(own.name))
+        own.known.is(Class::MathGlyph)
     }
 
     // Whether a token goes to the insertion mode, where the adjusted current node has this tag.
@@ -63,21 +62,20 @@ impl<'a> Builder<'a> {
             (token_view token.entry (token_of self.now)) }
     {
         let store = &self.path.store;
-        let is_html = is_html(store, tag);
+        if is_html(store, tag) {
+            return true;
+        }
         match token {
             Token::Character(_) => {
-                is_html
-                    || is_text_integration_point(store, tag)
-                    || is_html_integration_point(store, tag)
+                is_text_integration_point(store, tag) || is_html_integration_point(store, tag)
             }
             Token::Start { group, closes: _ } => {
-                is_html
-                    || is_html_integration_point(store, tag)
+                is_html_integration_point(store, tag)
                     || (is_text_integration_point(store, tag) && !self.is_mark())
                     || (is_annotation(store, tag) && is_svg_start(group))
             }
             Token::EndOfFile => true,
-            _ => is_html,
+            _ => false,
         }
     }
 

@@ -5,6 +5,7 @@ ghost use Rattle.tl_dom_spec.specs.Tags.{by_space};
 ghost use Rattle.tl_tree.specs.Inner.Store.{space_of};
 
 use crate::span::Span;
+use tl_names::element_name::ElementName;
 
 /// The namespaces of elements.
 #[derive(Clone, Copy, PartialEq, Eq)]
@@ -71,15 +72,18 @@ pub(crate) struct AttributeEntry {
     pub(crate) value: Span,
 }
 
-/// An element without its children. Its attributes stand side by side in their list.
+/// An element without its children. Its attributes stand side by side in their list. The store
+/// looks its name up as it takes it in.
 #[derive(Clone, Copy)]
 pub(crate) struct TagEntry {
     pub(crate) space: Namespace,
     pub(crate) name: Span,
-    pub(crate) known: u8,
+    pub(crate) known: ElementName,
     pub(crate) list: AttributeList,
     pub(crate) first_attribute: u32,
     pub(crate) attribute_count: u32,
+    /// One more than the number of its start tag among those of the page: 0 where there is none.
+    pub(crate) start: u32,
 }
 
 #[derive(Clone, Copy)]

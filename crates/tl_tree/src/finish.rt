@@ -13,6 +13,7 @@ use crate::cell::Node;
 use crate::error::GrowError;
 use crate::path::FramePath;
 use crate::settle::tree_of;
+use crate::span::Span;
 use crate::test::Test;
 use crate::tree::Tree;
 use std::alloc::Global;
@@ -46,17 +47,24 @@ impl<'a> FramePath<'a> {
 }
 
 impl<'a> Builder<'a> {
-    /// The tree of what stands in the innermost frame that passes a test, or in the document.
-    pub(crate) fn into_tree(self, alloc: Global, test: Test<'_>) -> Result<Tree<'a>, GrowError>
+    /// The tree of what stands in the innermost frame that passes a test, or in the document, with
+    /// the places of the start tags.
+    pub(crate) fn into_tree(
+        self,
+        alloc: Global,
+        sources: Vec<Span>,
+        test: Test<'_>,
+    ) -> Result<Tree<'a>, GrowError>
         ensures tree { IfOk result (λ tree. rows_in tree
             ≡ rows_of
             (trees_in (top (popped_to (test_of test.entry) (builder_of self.entry).path)))) }
+        ensures sources { IfOk result (λ tree. tree.sources.items ≡ sources.items) }
         ensures quirks { IfOk result
             (λ tree. tree.is_quirks ≡ (builder_of self.entry).is_quirks) }
     {
         let is_quirks = self.is_quirks;
         let mut path = self.path;
         let row = path.content_of(test)?;
-        tree_of(alloc, path.store, row, is_quirks)
+        tree_of(alloc, path.store, row, sources, is_quirks)
     }
 }

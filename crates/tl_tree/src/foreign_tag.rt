@@ -17,6 +17,7 @@ use crate::path::FramePath;
 use crate::span::Span;
 use crate::store::Store;
 use crate::test::is_one_of;
+use tl_names::element_name::ElementName;
 
 // A name as one of these words is written.
 fn put_cased(
@@ -141,10 +142,11 @@ impl<'a> Store<'a> {
         self.add_tag(TagEntry {
             space,
             name,
-            known: 0,
+            known: ElementName::OTHER,
             list,
             first_attribute,
             attribute_count: own.attribute_count,
+            start: own.start,
         })
     }
 }

@@ -34,7 +34,7 @@ impl<'a> Builder<'a> {
         ensures token { token_of self.new ≡ token_of self.old }
     {
         match self.surplus() {
-            Some(place) => self.active.remove(place),
+            Some(place) => self.active.remove(&self.path, place),
             None => {}
         }
     }
@@ -52,7 +52,7 @@ impl<'a> Builder<'a> {
         let tag = self.tag;
         let place = self.appropriate_place();
         self.path.insert_element(place, tag)?;
-        self.active.push(number, tag)
+        self.active.push(&self.path, number, tag)
     }
 
     /// Inserts an element for the token, and lists it as an active formatting element.

@@ -10,6 +10,7 @@ ghost use Rattle.tl_tree.specs.Inner.Store.{Grows, is_node, is_row, nodes_of, ta
 
 use crate::cell::Node;
 use crate::error::GrowError;
+use crate::names::Names;
 use crate::store::Store;
 use crate::test::TagTest;
 
@@ -38,7 +39,7 @@ fn head_of(store: &Store<'_>, node: Node) -> Option<Head>
     let Node::Element { tag, below } = node else {
         return None;
     };
-    if TagTest::Any(b"head").passes(store, tag) {
+    if TagTest::Any(Names::Head).passes(store, tag) {
         Some(Head { tag, below })
     } else {
         None
@@ -54,7 +55,7 @@ pub(crate) fn is_plain(store: &Store<'_>, node: Node) -> bool
         Node::Text(_) => true,
         Node::Comment(_) => true,
         Node::Doctype(_) => true,
-        Node::Element { tag, below: _ } => !TagTest::Any(b"head").passes(store, tag),
+        Node::Element { tag, below: _ } => !TagTest::Any(Names::Head).passes(store, tag),
         Node::Joined(_) => false,
     }
 }

@@ -1,5 +1,5 @@
 //! What a token of the page says, held by the builder while it is processed.
-ghost use Rattle.std.specs.Prelude.{Bool, IfOk, IsTrue, List, OnOk, [], length, ◌<◌, ◌≡◌, ◌≤◌, ◌∷◌, ℕ};
+ghost use Rattle.std.specs.Prelude.{Bool, IfOk, IsTrue, List, OnOk, Some, [], length, ◌<◌, ◌≡◌, ◌≤◌, ◌∷◌, ℕ};
 ghost use Rattle.tl_dom_spec.specs.Groups.{group};
 ghost use Rattle.tl_dom_spec.specs.Tags.{has_value, html_tag};
 ghost use Rattle.tl_html_spec.specs.HtmlTokenizer.{HtmlAttribute, StartTag};
@@ -22,7 +22,6 @@ use crate::span::Span;
 use crate::store::Store;
 use std::alloc::Global;
 use tl_html_tokens::Mode;
-use tl_names::element_name::ElementName;
 
 /// A start tag that is held: the group of its name, and whether it closes itself.
 #[derive(Clone, Copy)]
@@ -37,11 +36,11 @@ pub(crate) fn tag_group(store: &Store<'_>, number: u32) -> Group
     ensures { group_view result ≡ group (tag_at store.now number).name }
 {
     let tag = store.tag(number);
-    group_of(ElementName::of(store.bytes(tag.name)))
+    group_of(tag.known)
 }
 
 impl<'a> Builder<'a> {
-    // Puts a start tag of the page in the store.
+    // Puts a start tag of the page in the store, with its number.
     fn add_start_tag(
         &mut self,
         alloc: Global,
@@ -57,7 +56,10 @@ impl<'a> Builder<'a> {
             (attributes : List HtmlAttribute) (closes : Bool) →
             IsWhole mode (piece_at self.old.path.store.page.now start end)
             (StartTag name attributes closes ∷ []) →
-            tag_at self.new.path.store added.number ≡ html_tag name attributes) }
+            tag_at self.new.path.store added.number
+            ≡ record (html_tag name attributes) {
+              source = Some (builder_of self.old).starts;
+            }) }
         ensures closes { IfOk result (λ added. (mode : Mode) (name : List ℕ)
             (attributes : List HtmlAttribute) (closes : Bool) →
             IsWhole mode (piece_at self.old.path.store.page.now start end)
@@ -66,7 +68,8 @@ impl<'a> Builder<'a> {
         ensures number { IfOk result
             (λ added. added.number < length self.new.path.store.tags.items) }
     {
-        self.path.add_start_tag(alloc, room, start, end)
+        let source = self.starts;
+        self.path.add_start_tag(alloc, room, start, end, source)
     }
 
     /// The text of a page, which is read in this mode, as bytes of the store.
@@ -158,7 +161,10 @@ impl<'a> Builder<'a> {
             (attributes : List HtmlAttribute) (closes : Bool) →
             IsWhole mode (piece_at self.old.path.store.page.now start end)
             (StartTag name attributes closes ∷ []) →
-            (token_of self.new).tag ≡ html_tag name attributes) }
+            (token_of self.new).tag
+            ≡ record (html_tag name attributes) {
+              source = Some (builder_of self.old).starts;
+            }) }
         ensures group { IfOk result
             (λ held. group_view held.group ≡ group (token_of self.new).tag.name) }
         ensures closes { IfOk result (λ held. (mode : Mode) (name : List ℕ)

@@ -10,6 +10,7 @@ use crate::builder::Builder;
 use crate::entries::Namespace;
 use crate::error::GrowError;
 use crate::group::Group;
+use crate::names::Names;
 use crate::outcome::Outcome;
 use crate::test::TagTest;
 
@@ -36,10 +37,10 @@ impl<'a> Builder<'a> {
             Group::ANoembed => self.parse_raw_text(),
             Group::ANoscript => self.noscript_start_in_body(),
             Group::ASelect => self.select_start(),
-            Group::AnOption => self.option_start(TagTest::Any(b"optgroup")),
+            Group::AnOption => self.option_start(TagTest::Any(Names::Optgroup)),
             Group::AnOptionGroup => self.option_start(TagTest::Nothing),
             Group::ARubyBase => self.ruby_start(TagTest::Nothing),
-            Group::ARubyText => self.ruby_start(TagTest::Any(b"rtc")),
+            Group::ARubyText => self.ruby_start(TagTest::Any(Names::Rtc)),
             Group::AMath => self.foreign_start(Namespace::Math, closes),
             Group::AnSvg => self.foreign_start(Namespace::Svg, closes),
             _ => self.ordinary_start(),

@@ -8,6 +8,7 @@ use crate::builder::Builder;
 use crate::error::GrowError;
 use crate::group::Group;
 use crate::mode::Mode;
+use crate::names::Names;
 use crate::outcome::Outcome;
 use crate::test::TagTest;
 use crate::token::Token;
@@ -17,7 +18,7 @@ impl<'a> Builder<'a> {
         ensures ok { OnOk result (builder_of self.new ≡ caption_closed (builder_of self.old)) }
         ensures token { token_of self.new ≡ token_of self.old }
     {
-        self.close_except_for(TagTest::Nothing, TagTest::Any(b"caption"))?;
+        self.close_except_for(TagTest::Nothing, TagTest::Any(Names::Caption))?;
         self.clear_to_last_marker();
         self.switch_to(Mode::InTable);
         Ok(())
@@ -28,7 +29,7 @@ impl<'a> Builder<'a> {
             ≡ after_caption (builder_of self.old)) }
         ensures token { token_of self.new ≡ token_of self.old }
     {
-        if !self.has_in_table_scope(TagTest::Any(b"caption")) {
+        if !self.has_in_table_scope(TagTest::Any(Names::Caption)) {
             return Ok(Outcome::Done);
         }
         self.caption_closed()?;
@@ -59,7 +60,7 @@ impl<'a> Builder<'a> {
         ensures token { token_of self.new ≡ token_of self.old }
     {
         match group {
-            Group::ACaption if self.has_in_table_scope(TagTest::Any(b"caption")) => {
+            Group::ACaption if self.has_in_table_scope(TagTest::Any(Names::Caption)) => {
                 self.caption_closed()?;
                 Ok(Outcome::Done)
             }

@@ -9,6 +9,7 @@ use crate::builder::Builder;
 use crate::error::GrowError;
 use crate::group::Group;
 use crate::mode::Mode;
+use crate::names::Names;
 use crate::outcome::Outcome;
 use crate::test::TagTest;
 use crate::token::Token;
@@ -30,10 +31,10 @@ impl<'a> Builder<'a> {
             ≡ after_cell (builder_of self.old)) }
         ensures token { token_of self.new ≡ token_of self.old }
     {
-        if !self.has_in_table_scope(TagTest::Any(b"td th")) {
+        if !self.has_in_table_scope(TagTest::Any(Names::Cells)) {
             return Ok(Outcome::Done);
         }
-        self.cell_closed(TagTest::Any(b"td th"))?;
+        self.cell_closed(TagTest::Any(Names::Cells))?;
         Ok(Outcome::Again)
     }
 
@@ -46,7 +47,7 @@ impl<'a> Builder<'a> {
         if !self.has_in_table_scope(TagTest::Named(name)) {
             return Ok(Outcome::Done);
         }
-        self.cell_closed(TagTest::Any(b"td th"))?;
+        self.cell_closed(TagTest::Any(Names::Cells))?;
         Ok(Outcome::Again)
     }
 

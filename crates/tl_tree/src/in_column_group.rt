@@ -8,6 +8,7 @@ use crate::builder::Builder;
 use crate::error::GrowError;
 use crate::group::Group;
 use crate::mode::Mode;
+use crate::names::Names;
 use crate::outcome::Outcome;
 use crate::test::TagTest;
 use crate::token::Token;
@@ -27,7 +28,7 @@ impl<'a> Builder<'a> {
             ≡ after_column_group (builder_of self.old)) }
         ensures token { token_of self.new ≡ token_of self.old }
     {
-        if !self.is_current(TagTest::Any(b"colgroup")) {
+        if !self.is_current(TagTest::Any(Names::Colgroup)) {
             return Ok(Outcome::Done);
         }
         self.column_group_closed()?;
@@ -56,7 +57,7 @@ impl<'a> Builder<'a> {
         ensures token { token_of self.new ≡ token_of self.old }
     {
         match group {
-            Group::AColumnGroup if self.is_current(TagTest::Any(b"colgroup")) => {
+            Group::AColumnGroup if self.is_current(TagTest::Any(Names::Colgroup)) => {
                 self.column_group_closed()?
             }
             Group::ATemplate => self.template_end_tag()?,

@@ -10,6 +10,7 @@ use crate::builder::Builder;
 use crate::error::GrowError;
 use crate::group::Group;
 use crate::mode::Mode;
+use crate::names::Names;
 use crate::outcome::Outcome;
 use crate::test::TagTest;
 use crate::token::Token;
@@ -36,7 +37,7 @@ impl<'a> Builder<'a> {
         ensures token { token_of self.new ≡ token_of self.old }
     {
         self.pop_current_node()?;
-        if self.is_fragment() || self.is_current(TagTest::Any(b"frameset")) {
+        if self.is_fragment() || self.is_current(TagTest::Any(Names::Frameset)) {
             return Ok(());
         }
         self.switch_to(Mode::AfterFrameset);

@@ -8,12 +8,13 @@ use crate::builder::Builder;
 use crate::error::GrowError;
 use crate::group::Group;
 use crate::mode::Mode;
+use crate::names::Names;
 use crate::outcome::Outcome;
 use crate::test::TagTest;
 use crate::token::Token;
 
 // Where clearing the stack back to a table row context ends.
-const TABLE_ROW_CONTEXT: TagTest<'static> = TagTest::Any(b"tr template html");
+const TABLE_ROW_CONTEXT: TagTest<'static> = TagTest::Any(Names::RowContext);
 
 impl<'a> Builder<'a> {
     fn row_closed(&mut self) -> Result<(), GrowError>
@@ -31,7 +32,7 @@ impl<'a> Builder<'a> {
             ≡ after_row (builder_of self.old)) }
         ensures token { token_of self.new ≡ token_of self.old }
     {
-        if !self.has_in_table_scope(TagTest::Any(b"tr")) {
+        if !self.has_in_table_scope(TagTest::Any(Names::Row)) {
             return Ok(Outcome::Done);
         }
         self.row_closed()?;
@@ -66,7 +67,7 @@ impl<'a> Builder<'a> {
         ensures token { token_of self.new ≡ token_of self.old }
     {
         match group {
-            Group::ARow if self.has_in_table_scope(TagTest::Any(b"tr")) => {
+            Group::ARow if self.has_in_table_scope(TagTest::Any(Names::Row)) => {
                 self.row_closed()?;
                 Ok(Outcome::Done)
             }

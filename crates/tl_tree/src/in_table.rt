@@ -11,12 +11,13 @@ use crate::builder::Builder;
 use crate::error::GrowError;
 use crate::group::Group;
 use crate::mode::Mode;
+use crate::names::Names;
 use crate::outcome::Outcome;
 use crate::test::TagTest;
 use crate::token::Token;
 
 // Where clearing the stack back to a table context ends.
-const TABLE_CONTEXT: TagTest<'static> = TagTest::Any(b"table template html");
+const TABLE_CONTEXT: TagTest<'static> = TagTest::Any(Names::TableContext);
 
 impl<'a> Builder<'a> {
     // Anything else: by the rules of "in body", with foster parenting.
@@ -36,7 +37,7 @@ impl<'a> Builder<'a> {
         ensures ok { OnOk result (builder_of self.new ≡ table_closed (builder_of self.old)) }
         ensures token { token_of self.new ≡ token_of self.old }
     {
-        self.pop_until(TagTest::Any(b"table"))?;
+        self.pop_until(TagTest::Any(Names::Table))?;
         self.reset_insertion_mode()
     }
 
@@ -116,7 +117,7 @@ impl<'a> Builder<'a> {
             Group::ACell | Group::ARow => {
                 return self.imply_in(TABLE_CONTEXT, b"tbody", Mode::InTableBody);
             }
-            Group::ATable if self.has_in_table_scope(TagTest::Any(b"table")) => {
+            Group::ATable if self.has_in_table_scope(TagTest::Any(Names::Table)) => {
                 self.table_closed()?;
                 return Ok(Outcome::Again);
             }
@@ -136,7 +137,7 @@ impl<'a> Builder<'a> {
         ensures token { token_of self.new ≡ token_of self.old }
     {
         match group {
-            Group::ATable if self.has_in_table_scope(TagTest::Any(b"table")) => {
+            Group::ATable if self.has_in_table_scope(TagTest::Any(Names::Table)) => {
                 self.table_closed()?
             }
             Group::ATemplate => self.template_end_tag()?,
@@ -174,8 +175,8 @@ impl<'a> Builder<'a> {
             ≡ table_character (builder_of self.old) byte) }
         ensures token { token_of self.new ≡ token_of self.old }
     {
-        let is_text = self.is_current(TagTest::Any(b"table tbody tfoot thead tr"))
-            || self.is_current(TagTest::Any(b"template"));
+        let is_text = self.is_current(TagTest::Any(Names::FosterTargets))
+            || self.is_current(TagTest::Any(Names::Template));
         if !is_text {
             return self.with_foster_parenting(Token::Character(byte));
         }

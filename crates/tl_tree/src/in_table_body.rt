@@ -8,12 +8,13 @@ use crate::builder::Builder;
 use crate::error::GrowError;
 use crate::group::Group;
 use crate::mode::Mode;
+use crate::names::Names;
 use crate::outcome::Outcome;
 use crate::test::TagTest;
 use crate::token::Token;
 
 // Where clearing the stack back to a table body context ends.
-const TABLE_BODY_CONTEXT: TagTest<'static> = TagTest::Any(b"tbody tfoot thead template html");
+const TABLE_BODY_CONTEXT: TagTest<'static> = TagTest::Any(Names::BodyContext);
 
 impl<'a> Builder<'a> {
     fn body_closed(&mut self) -> Result<(), GrowError>
@@ -31,7 +32,7 @@ impl<'a> Builder<'a> {
             ≡ after_table_body (builder_of self.old)) }
         ensures token { token_of self.new ≡ token_of self.old }
     {
-        if !self.has_in_table_scope(TagTest::Any(b"tbody tfoot thead")) {
+        if !self.has_in_table_scope(TagTest::Any(Names::Sections)) {
             return Ok(Outcome::Done);
         }
         self.body_closed()?;

@@ -9,8 +9,8 @@ use crate::alike::attributes;
 use crate::entries::AttributeEntry;
 use crate::lowered::is_lowered;
 use crate::store::Store;
-use crate::test::{is_of, is_one_of};
 use tl_names::class::Class;
+use tl_names::element_name::ElementName;
 
 /// Whether an element has an attribute of this key.
 pub(crate) fn has_attribute(store: &Store<'_>, number: u32, key: &[u8]) -> bool
@@ -57,7 +57,7 @@ fn is_svg_point(store: &Store<'_>, number: u32) -> bool
         ≡ (is_svg (tag_at store.now number) && is_svg_mark (tag_at store.now number)) }
 {
     let tag = store.tag(number);
-    tag.space.is_svg() && is_of(Class::SvgMark, store.bytes(tag.name))
+    tag.space.is_svg() && tag.known.is(Class::SvgMark)
 }
 
 pub(crate) fn is_text_integration_point(store: &Store<'_>, number: u32) -> bool
@@ -65,7 +65,7 @@ pub(crate) fn is_text_integration_point(store: &Store<'_>, number: u32) -> bool
     ensures { result ≡ is_text_integration_point (tag_at store.now number) }
 {
     let tag = store.tag(number);
-    tag.space.is_math() && is_of(Class::MathText, store.bytes(tag.name))
+    tag.space.is_math() && tag.known.is(Class::MathText)
 }
 
 /// Whether an element is `annotation-xml`.
@@ -74,7 +74,7 @@ pub(crate) fn is_annotation(store: &Store<'_>, number: u32) -> bool
     ensures { result ≡ is_annotation (tag_at store.now number) }
 {
     let tag = store.tag(number);
-    tag.space.is_math() && is_one_of(b"annotation-xml", store.bytes(tag.name))
+    tag.space.is_math() && tag.known == ElementName::ANNOTATION_XML
 }
 
 pub(crate) fn is_html_integration_point(store: &Store<'_>, number: u32) -> bool

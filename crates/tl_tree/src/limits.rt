@@ -1,17 +1,22 @@
 //! From where on no frame of a path passes a test: there a search begins.
-ghost use Rattle.std.specs.Prelude.{IsTrue, length, map, true, ◌≡◌, ◌≤◌};
+ghost use Rattle.std.specs.Prelude.{IsTrue, List, length, map, true, ◌≡◌, ◌≤◌, ℕ};
 ghost use Rattle.tl_dom_spec.specs.Path.{has_number, has_tag};
 ghost use Rattle.tl_dom_spec.specs.Tags.{is_any};
+ghost use Rattle.tl_names.specs.ElementNames.{element_names, name_of};
+ghost use Rattle.tl_names.specs.Elements.{is_among};
 ghost use Rattle.tl_tree.specs.Inner.Entered.{entered, entered_of};
 ghost use Rattle.tl_tree.specs.Inner.Frames.{test_of};
 ghost use Rattle.tl_tree.specs.Inner.Limits.{is_in_bucket, is_of_kind, none_from};
+ghost use Rattle.tl_tree.specs.Inner.NameLists.{list_of};
 ghost use Rattle.tl_tree.specs.Inner.Roles.{bucket_of};
 ghost use Rattle.tl_tree.specs.Inner.Tests.{tag_test_of};
 
 use crate::frame::Mark;
+use crate::names::Names;
 use crate::path::FramePath;
-use crate::role::{Kind, bucket_of};
+use crate::role::{Kind, bucket_of, known_bucket};
 use crate::test::{TagTest, Test};
+use tl_names::element_name::ElementName;
 
 impl<'a> FramePath<'a> {
     // Whether all frames are known where the path is searched.
@@ -46,14 +51,27 @@ impl<'a> FramePath<'a> {
         }
     }
 
-    // From which place on no HTML element has one of these names.
-    fn names_limit(&self, names: &[u8]) -> usize
+    // The same of a name that is known.
+    fn known_limit(&self, name: ElementName) -> usize
         ensures within { result ≤ length self.now.frames.items }
-        ensures skips { IsTrue (none_from (has_tag (is_any names.now)) self.now result) }
+        ensures skips { (n : List ℕ) → is_among element_names n ≡ true → name ≡ name_of n
+            → IsTrue (none_from (is_in_bucket (bucket_of n)) self.now result) }
+    {
+        if self.knows_all() {
+            self.scopes.limit_of(known_bucket(name))
+        } else {
+            self.frames.len()
+        }
+    }
+
+    // From which place on no HTML element has one of these names.
+    fn names_limit(&self, names: Names) -> usize
+        ensures within { result ≤ length self.now.frames.items }
+        ensures skips { IsTrue (none_from (has_tag (is_any (list_of names))) self.now result) }
     {
         let mut limit: usize = 0;
-        for name in names.split(|byte| *byte == b' ') {
-            limit = limit.max(self.name_limit(name));
+        for name in names.members() {
+            limit = limit.max(self.known_limit(*name));
         }
         limit
     }
@@ -79,7 +97,7 @@ impl<'a> FramePath<'a> {
             TagTest::Named(name) => self.name_limit(name),
             TagTest::Scope => self.kind_limit(Kind::Scope),
             TagTest::ScopeOr(names) => { self.kind_limit(Kind::Scope).max(self.names_limit(names)) }
-            TagTest::Heading => self.names_limit(b"h1 h2 h3 h4 h5 h6"),
+            TagTest::Heading => self.names_limit(Names::Headings),
             TagTest::ImpliedThoroughly => self.frames.len(),
             TagTest::Special(_) => self.kind_limit(Kind::Special),
             TagTest::ItemBound(_) => self.kind_limit(Kind::ItemBound),

@@ -14,12 +14,14 @@ use crate::entries::{AttributeList, Namespace, TagEntry};
 use crate::error::GrowError;
 use crate::frame::{Frame, Mark, Place};
 use crate::head::{at_head, is_plain};
+use crate::names::Names;
 use crate::role::{Entered, Role, role_of};
 use crate::scopes::Scopes;
 use crate::span::Span;
 use crate::store::Store;
 use crate::test::{TagTest, Test};
 use std::alloc::Global;
+use tl_names::element_name::ElementName;
 
 /// The path, with the outermost frame first, and the store that its frames refer to.
 #[derive(Drop)]
@@ -66,10 +68,11 @@ impl<'a> FramePath<'a> {
         let tag = store.add_tag(TagEntry {
             space: Namespace::Html,
             name: Span { start: 0, len: 0 },
-            known: 0,
+            known: ElementName::OTHER,
             list: AttributeList::Tags,
             first_attribute: 0,
             attribute_count: 0,
+            start: 0,
         })?;
         let mut frames = Vec::new(alloc);
         frames.push(Frame {
@@ -151,6 +154,22 @@ impl<'a> FramePath<'a> {
         if frame.late == 0 {
             return Ok(frame);
         }
+        self.fold(frame)
+    }
+
+    // The same of a frame that has late nodes.
+    fn fold(&mut self, frame: Frame) -> Result<Frame, GrowError>
+        requires { IsTrue (is_frame self.old frame) }
+        ensures stands { IfOk result (λ new.
+            frame_of self.new.store new ≡ frame_of self.old.store frame) }
+        ensures late { IfOk result (λ new. new.late ≡ 0) }
+        ensures number { IfOk result (λ new. new.number ≡ frame.number) }
+        ensures tag { IfOk result (λ new. new.tag ≡ frame.tag) }
+        ensures within { IfOk result (λ new. IsTrue (is_frame self.new new)) }
+        ensures frames { self.new.frames.items ≡ self.old.frames.items }
+        ensures next { self.new.next ≡ self.old.next }
+        ensures grows { Grows self.old.store self.new.store }
+    {
         let children = self.add_late(frame.children, frame.late)?;
         Ok(Frame {
             children,
@@ -176,10 +195,13 @@ impl<'a> FramePath<'a> {
         ensures next { self.new.next ≡ self.old.next }
         ensures grows { Grows self.old.store self.new.store }
     {
+        if frame.late == 0 {
+            return Ok(frame);
+        }
         if is_plain(&self.store, node) {
             return Ok(frame);
         }
-        self.folded(frame)
+        self.fold(frame)
     }
 
     // A node goes to the end of a frame.
@@ -240,10 +262,22 @@ impl<'a> FramePath<'a> {
         ensures next { self.new.next ≡ self.old.next }
         ensures grows { Grows self.old.store self.new.store }
     {
-        let frame = self.frames[index];
-        if frame.waiting == 0 {
+        if self.frames[index].waiting == 0 {
             return Ok(());
         }
+        self.join_waiting(index)
+    }
+
+    // The same of a frame in which something waited.
+    fn join_waiting(&mut self, index: usize) -> Result<(), GrowError>
+        requires index { index < length self.old.frames.items }
+        ensures ok { OnOk result
+            (frames_of self.new ≡ changed index caught_up (frames_of self.old)) }
+        ensures len { length self.new.frames.items ≡ length self.old.frames.items }
+        ensures next { self.new.next ≡ self.old.next }
+        ensures grows { Grows self.old.store self.new.store }
+    {
+        let frame = self.frames[index];
         let frame = self.folded(frame)?;
         let children = self.add(frame.children, Node::Joined(frame.waiting))?;
         self.write(
@@ -551,8 +585,7 @@ impl<'a> FramePath<'a> {
         ensures stands { result ≡ role_of (tag_at self.now.store tag) }
         ensures within { result.bucket < 4093 }
     {
-        let tag = self.store.tag(tag);
-        role_of(tag.space, self.store.bytes(tag.name))
+        role_of(&self.store, self.store.tag(tag))
     }
 
     // What a frame is to searches.
@@ -708,7 +741,11 @@ impl<'a> FramePath<'a> {
         ensures { result
             ≡ within (test_of test.entry) (test_of bounds.entry) (elements (path_of self.now)) }
     {
-        let mut index = self.limit(test).max(self.limit(bounds));
+        let first = self.limit(test);
+        if first == 0 {
+            return false;
+        }
+        let mut index = first.max(self.limit(bounds));
         while index > 0 {
             index -= 1;
             match self.answer_at(index, test, bounds) {
@@ -761,11 +798,11 @@ impl<'a> FramePath<'a> {
         if !frame.is_open {
             return None;
         }
-        let template = Test::Tag(TagTest::Any(b"template"));
+        let template = Test::Tag(TagTest::Any(Names::Template));
         if template.passes(&self.store, frame) {
             return Some(Place::Behind(Mark::new(frame.number, index)));
         }
-        let table = Test::Tag(TagTest::Any(b"table"));
+        let table = Test::Tag(TagTest::Any(Names::Table));
         if table.passes(&self.store, frame) {
             return Some(self.place_around(index, frame.place));
         }
@@ -791,7 +828,7 @@ impl<'a> FramePath<'a> {
     pub(crate) fn place_in(&self, is_fostering: bool) -> Place
         ensures { place_of result ≡ place_in is_fostering (path_of self.now) }
     {
-        let targets = Test::Tag(TagTest::Any(b"table tbody tfoot thead tr"));
+        let targets = Test::Tag(TagTest::Any(Names::FosterTargets));
         if is_fostering && targets.passes(&self.store, self.top()) {
             self.foster_place()
         } else {
@@ -818,6 +855,10 @@ impl<'a> FramePath<'a> {
     pub(crate) fn is_open_number(&self, number: u32) -> bool
         ensures { result ≡ is_open_number number (path_of self.now) }
     {
+        let top = self.top();
+        if top.is_open && top.number == number {
+            return true;
+        }
         self.is_within(Test::Number(number), Test::Nothing)
     }
 

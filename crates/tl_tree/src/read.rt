@@ -4,6 +4,7 @@ ghost use Rattle.tl_dom_spec.specs.HtmlTree.{fragment_read, html_fragment_by, ht
 ghost use Rattle.tl_tree.specs.Contexts.{context_of};
 ghost use Rattle.tl_tree.specs.Inner.Builders.{flags_of};
 ghost use Rattle.tl_tree.specs.Rows.{rows_of};
+ghost use Rattle.tl_tree.specs.Sources.{AreSourced, fragment_begin, page_begin};
 ghost use Rattle.tl_tree.specs.TreeView.{rows_in};
 
 use crate::builder::Flags;
@@ -26,6 +27,8 @@ impl<'p> Tree<'p> {
             rows_in tree ≡ rows_of (html_tree_by (flags_of flags) page.now).trees) }
         ensures quirks { IfOk result (λ tree.
             tree.is_quirks ≡ (html_tree_by (flags_of flags) page.now).is_quirks) }
+        ensures sources { IfOk result (λ tree.
+            AreSourced page.now (page_begin (flags_of flags) page.now) tree) }
         ensures in_proportion { IfOk result (λ tree.
             is_in_proportion_by (flags_of flags) page.now ≡ true) }
         ensures out_of_proportion { (at : ℕ) →
@@ -34,7 +37,9 @@ impl<'p> Tree<'p> {
     {
         let mut reader = Reader::new(alloc, page, flags)?;
         reader.read()?;
-        let tree = reader.builder.into_tree(alloc, Test::Nothing)?;
+        let tree = reader
+            .builder
+            .into_tree(alloc, reader.sources, Test::Nothing)?;
         Ok(tree)
     }
 
@@ -53,6 +58,8 @@ impl<'p> Tree<'p> {
             ≡ rows_of (html_fragment_by (flags_of flags) (context_of context.entry) text.now)) }
         ensures quirks { IfOk result (λ tree. tree.is_quirks
             ≡ (fragment_read (flags_of flags) (context_of context.entry) text.now).is_quirks) }
+        ensures sources { IfOk result (λ tree. AreSourced text.now
+            (fragment_begin (flags_of flags) (context_of context.entry)) tree) }
         ensures in_proportion { IfOk result (λ tree.
             is_fragment_in_proportion_by (flags_of flags) (context_of context.entry) text.now
             ≡ true) }
@@ -63,7 +70,9 @@ impl<'p> Tree<'p> {
     {
         let mut reader = Reader::for_fragment(alloc, text, context, flags)?;
         reader.read()?;
-        let tree = reader.builder.into_tree(alloc, Test::Number(1))?;
+        let tree = reader
+            .builder
+            .into_tree(alloc, reader.sources, Test::Number(1))?;
         Ok(tree)
     }
 }

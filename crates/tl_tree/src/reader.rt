@@ -5,6 +5,8 @@ use crate::builder::{Builder, Flags};
 use crate::context::Context;
 use crate::entries::AttributeEntry;
 use crate::error::{GrowError, ReadError};
+use crate::source::keep_source;
+use crate::span::Span;
 use crate::token::Token;
 use std::alloc::Global;
 use tl_html_parts::with_feeds;
@@ -18,6 +20,8 @@ pub(crate) struct Reader<'p> {
     pub(crate) at: usize,
     /// How the tokenizer goes on there.
     pub(crate) mode: Mode,
+    /// Where the start tags stand that were taken.
+    pub(crate) sources: Vec<Span>,
     /// Room for the attributes of a tag.
     pub(crate) room: Vec<AttributeEntry>,
     pub(crate) alloc: Global,
@@ -104,18 +108,25 @@ impl<'p> Reader<'p> {
     ghost use Rattle.tl_tree.specs.Contexts.{context_of};
     ghost use Rattle.tl_tree.specs.Inner.Builders.{builder_of, flags_of};
     ghost use Rattle.tl_tree.specs.Inner.Reading.{left_of};
+    ghost use Rattle.tl_tree.specs.Inner.Sourced.{AreSources, IsSourced};
+    ghost use Rattle.tl_tree.specs.Sources.{Reached, fragment_begin, page_begin};
 
     /// Before the first token of a page.
     pub(crate) fn new(alloc: Global, page: &'p [u8], flags: Flags) -> Result<Reader<'p>, GrowError>
         ensures left { IfOk result (λ reader.
             token_done (left_of reader) end_of_file ≡ page_read (flags_of flags) page.now) }
+        ensures sources { IfOk result (λ reader.
+            IsSourced (page_begin (flags_of flags) page.now) reader) }
+        ensures page { IfOk result (λ reader. reader.page.now ≡ page.now) }
     {
         let builder = Builder::new(alloc, page, flags)?;
+        let sources = Vec::new(alloc);
         Ok(Reader {
             builder,
             page,
             at: mark_len(page),
             mode: Mode::Data,
+            sources,
             room: Vec::new(alloc),
             alloc,
         })
@@ -130,13 +141,18 @@ impl<'p> Reader<'p> {
     ) -> Result<Reader<'p>, GrowError>
         ensures left { IfOk result (λ reader. token_done (left_of reader) end_of_file
             ≡ fragment_read (flags_of flags) (context_of context.entry) text.now) }
+        ensures sources { IfOk result (λ reader.
+            IsSourced (fragment_begin (flags_of flags) (context_of context.entry)) reader) }
+        ensures page { IfOk result (λ reader. reader.page.now ≡ text.now) }
     {
         let builder = Builder::for_fragment(alloc, text, context, flags)?;
+        let sources = Vec::new(alloc);
         Ok(Reader {
             builder,
             page: text,
             at: 0,
             mode: context.mode(flags),
+            sources,
             room: Vec::new(alloc),
             alloc,
         })
@@ -174,6 +190,8 @@ impl<'p> Reader<'p> {
         requires foreign { builder.is_foreign (builder_of self.old.builder) ≡ true }
         requires mode { self.old.mode ≡ Mode.Data }
         ensures ok { OnOk result (left_of self.new ≡ left_of self.old) }
+        ensures sources { OnOk result
+            ((begin : Reached) → IsSourced begin self.old → IsSourced begin self.new) }
         ensures further { OnOk result (self.old.at < self.new.at) }
         ensures page { self.new.page.now ≡ self.old.page.now }
     {
@@ -190,10 +208,13 @@ impl<'p> Reader<'p> {
         requires open { opens_section builder (builder_of self.old.builder) self.old.page.now
             self.old.at self.old.mode ≡ false }
         ensures ok { OnOk result (left_of self.new ≡ left_of self.old) }
+        ensures sources { OnOk result
+            ((begin : Reached) → IsSourced begin self.old → IsSourced begin self.new) }
         ensures further { OnOk result (self.old.at < self.new.at) }
         ensures page { self.new.page.now ≡ self.old.page.now }
     {
         let start = self.at;
+        keep_source(&mut self.sources, start, front)?;
         self.builder
             .take_front(self.alloc, &mut self.room, self.mode, start, front)?;
         self.mode = self.builder.mode_behind(front);
@@ -205,6 +226,8 @@ impl<'p> Reader<'p> {
     fn take_next(&mut self) -> Result<(), GrowError>
         requires { self.old.at < length self.old.page.now }
         ensures ok { OnOk result (left_of self.new ≡ left_of self.old) }
+        ensures sources { OnOk result
+            ((begin : Reached) → IsSourced begin self.old → IsSourced begin self.new) }
         ensures further { OnOk result (self.old.at < self.new.at) }
         ensures page { self.new.page.now ≡ self.old.page.now }
     {
@@ -232,6 +255,9 @@ impl<'p> Reader<'p> {
     // Reads on to the end of the page.
     fn read_on(&mut self) -> Result<(), ReadError>
         ensures ok { OnOk result (left_of self.new ≡ left_of self.old) }
+        ensures sources { OnOk result
+            ((begin : Reached) → IsSourced begin self.old → IsSourced begin self.new) }
+        ensures page { self.new.page.now ≡ self.old.page.now }
         ensures end { OnOk result (length self.new.page.now ≤ self.new.at) }
         ensures large { (at : ℕ) → result ≡ Err (ReadError.OutOfProportion at) →
             is_little (token_done (left_of self.old) end_of_file).excess ≡ false }
@@ -249,6 +275,9 @@ impl<'p> Reader<'p> {
     pub(crate) fn read(&mut self) -> Result<(), ReadError>
         ensures ok { OnOk result
             (builder_of self.new.builder ≡ token_done (left_of self.old) end_of_file) }
+        ensures sources { OnOk result ((begin : Reached) → IsSourced begin self.old →
+            AreSources self.old.page.now begin self.new.sources.items
+            (builder_of self.new.builder).starts) }
         ensures little { OnOk result
             (is_little (token_done (left_of self.old) end_of_file).excess ≡ true) }
         ensures large { (at : ℕ) → result ≡ Err (ReadError.OutOfProportion at) →

@@ -76,13 +76,6 @@ impl Place {
     }
 }
 
-// A place where no frame stands, nor further in.
-fn far_in() -> usize
-    ensures { 2 ^ 64 ≤ result + 1 }
-{
-    usize::MAX
-}
-
 // From which place on frames go to what is right around them, once one that does comes between
 // others.
 fn placed_around(placed: usize, place: usize, len: usize) -> usize
@@ -436,8 +429,19 @@ impl<'a> FramePath<'a> {
         Ok(self.frames.split_off(place)?)
     }
 
-    // Frames are put inside of those that are there.
-    fn put_back(&mut self, aside: &[Frame]) -> Result<(), GrowError>
+    // From which place on those that stand from a place on go to what is right around them.
+    fn placed_behind(&self, place: usize) -> usize
+        ensures near { IsTrue (list_all is_here (drop result (drop place self.now.frames.items))) }
+        ensures within { result ≤ length self.now.frames.items }
+    {
+        self.placed.min(self.frames.len()).saturating_sub(place)
+    }
+
+    // Frames are put inside of those that are there. From a place among them on they go to what is
+    // right around them.
+    fn put_back(&mut self, aside: &[Frame], placed: usize) -> Result<(), GrowError>
+        requires near { IsTrue (list_all is_here (drop placed aside.now)) }
+        requires small { placed < 2 ^ 63 }
         requires within { IsTrue (list_all (is_frame self.old) aside.now) }
         requires distinct { IsTrue (are_distinct (self.old.frames.items ++ aside.now)) }
         requires numbered { IsTrue (list_all (is_before self.old.next) aside.now) }
@@ -445,7 +449,7 @@ impl<'a> FramePath<'a> {
         ensures next { self.new.next ≡ self.old.next }
         ensures store { self.new.store ≡ self.old.store }
     {
-        self.placed = far_in();
+        self.placed = self.frames.len() + placed;
         self.frames.extend_from_slice(aside)?;
         Ok(())
     }
@@ -467,11 +471,12 @@ impl<'a> FramePath<'a> {
         ensures next { self.new.next ≡ self.old.next }
         ensures grows { Grows self.old.store self.new.store }
     {
+        let placed = self.placed_behind(place);
         let aside = self.set_aside(place)?;
         self.settle_to(number)?;
         let target = self.place_in(is_fostering);
         let outer = self.frames.len();
-        self.put_back(&aside)?;
+        self.put_back(&aside, placed)?;
         self.set_place(outer, target);
         Ok(())
     }

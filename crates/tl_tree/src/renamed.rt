@@ -7,6 +7,7 @@ use crate::entries::TagEntry;
 use crate::error::GrowError;
 use crate::path::FramePath;
 use crate::store::Store;
+use tl_names::element_name::ElementName;
 
 impl<'a> Store<'a> {
     /// Puts such a tag behind the others, and answers its number.
@@ -21,7 +22,7 @@ impl<'a> Store<'a> {
         let name = self.add_bytes(name)?;
         self.add_tag(TagEntry {
             name,
-            known: 0,
+            known: ElementName::OTHER,
             ..own
         })
     }

@@ -16,10 +16,10 @@ use crate::builder::Builder;
 use crate::error::GrowError;
 use crate::group::{Group, group_of};
 use crate::mode::Mode;
+use crate::names::Names;
 use crate::path::FramePath;
 use crate::role::Kind;
 use crate::test::{TagTest, Test};
-use tl_names::element_name::ElementName;
 
 impl<'a> FramePath<'a> {
     // Whether one of so many of the outermost frames is in the stack.
@@ -82,8 +82,7 @@ impl<'a> Builder<'a> {
         if !entry.space.is_html() {
             return None;
         }
-        let name = ElementName::of(self.path.store.bytes(entry.name));
-        self.mode_at(group_of(name), is_last)
+        self.mode_at(group_of(entry.known), is_last)
     }
 
     // In a fragment the context element stands for the last one.
@@ -173,7 +172,7 @@ impl<'a> Builder<'a> {
         ensures ok { OnOk result (builder_of self.new ≡ close_template (builder_of self.old)) }
         ensures token { token_of self.new ≡ token_of self.old }
     {
-        self.pop_until(TagTest::Any(b"template"))?;
+        self.pop_until(TagTest::Any(Names::Template))?;
         self.clear_to_last_marker();
         self.pop_template_mode();
         self.reset_insertion_mode()

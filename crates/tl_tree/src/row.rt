@@ -21,8 +21,6 @@ pub(crate) struct Row {
     pub(crate) parent: u32,
     /// The number behind the last row below it.
     pub(crate) end: u32,
-    /// The bytes of the page that it was read from. Not filled in yet.
-    pub(crate) source: Span,
 }
 
-const _: () = prove!(size_of::<Row>() == 28);
+const _: () = prove!(size_of::<Row>() == 20);

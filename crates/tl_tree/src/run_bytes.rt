@@ -13,7 +13,6 @@ use crate::mode::Mode;
 use crate::run_kind::{
     RunKind, goes_in, is_any_of_run, is_of_run, takes_all, takes_others, takes_white_alone,
 };
-use memchr::memchr;
 use std::alloc::Global;
 
 /// How many bytes are of the run that a character of a kind began, which left this mode.
@@ -40,7 +39,7 @@ pub(crate) fn run_len(mode: Mode, kind: RunKind, rest: &[u8]) -> usize
 pub(crate) fn has_no_null(bytes: &[u8]) -> bool
     ensures { OnTrue result (IsTrue (list_all is_not_null bytes.now)) }
 {
-    memchr(0, bytes).is_none()
+    !bytes.contains(&0)
 }
 
 // Whether all are white space.

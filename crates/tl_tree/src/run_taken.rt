@@ -10,6 +10,7 @@ ghost use Rattle.tl_tree.specs.Inner.Store.{bytes_of, is_span};
 use crate::builder::Builder;
 use crate::error::GrowError;
 use crate::mode::Mode;
+use crate::names::Names;
 use crate::run_bytes::{go_in, has_no_null, kept, replaced};
 use crate::span::Span;
 use crate::test::TagTest;
@@ -33,8 +34,8 @@ impl<'a> Builder<'a> {
     fn is_text_in_table(&self) -> bool
         ensures { result ≡ is_text_in_table (current_tag (builder_of self.now)) }
     {
-        self.is_current(TagTest::Any(b"table tbody tfoot thead tr"))
-            || self.is_current(TagTest::Any(b"template"))
+        self.is_current(TagTest::Any(Names::FosterTargets))
+            || self.is_current(TagTest::Any(Names::Template))
     }
 
     // Puts bytes behind the pending table characters.
@@ -154,8 +155,8 @@ impl<'a> Builder<'a> {
         self.add_replaced(text)
     }
 
-    // In HTML content.
-    fn run_in_html(&mut self, text: Span) -> Result<(), GrowError>
+    /// Takes a run in HTML content, of which no token is counted.
+    pub(crate) fn run_in_html(&mut self, text: Span) -> Result<(), GrowError>
         requires { IsTrue (is_span self.old.path.store text) }
         ensures ok { OnOk result (builder_of self.new
             ≡ html_run (builder_of self.old).mode
@@ -194,8 +195,8 @@ impl<'a> Builder<'a> {
         }
     }
 
-    // Counts characters, each of which is a token.
-    fn count_tokens(&mut self, count: u32) -> Result<(), GrowError>
+    /// Counts characters, each of which is a token.
+    pub(crate) fn count_tokens(&mut self, count: u32) -> Result<(), GrowError>
         ensures ok { OnOk result
             (builder_of self.new ≡ count_tokens count (builder_of self.old)) }
         ensures token { token_of self.new ≡ token_of self.old }

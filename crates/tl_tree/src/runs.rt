@@ -126,7 +126,8 @@ impl<'a> Builder<'a> {
     {
         self.calm();
         let text = self.text;
-        self.run_taken(text)
+        self.run_in_html(text)?;
+        self.count_tokens(text.len)
     }
 
     /// Takes the characters of a text.

@@ -15,12 +15,12 @@ ghost use Rattle.tl_tree.specs.Inner.Store.{Grows, bytes_of, is_span, is_tag, ta
 
 use crate::entries::{AttributeEntry, TagEntry};
 use crate::error::GrowError;
-use crate::said_attributes::put_tag;
-use crate::said_bytes::put_bytes;
+use crate::said_attributes::{put_attributes, put_tag};
+use crate::said_bytes::{put_bytes, put_name};
 use crate::span::Span;
 use crate::store::Store;
 use std::alloc::Global;
-use tl_html_parts::{characters, comment, tag_parts};
+use tl_html_parts::{comment, decoded, is_plain, tag_name};
 use tl_html_tokens::Mode;
 
 /// A start tag, and whether it closes itself.
@@ -54,12 +54,11 @@ pub(crate) fn start_tag(
     ensures grows { Grows store.old store.new }
 {
     let page = store.page;
-    let parts = tag_parts(alloc, &page[start..end])?;
-    let tag = put_tag(store, alloc, room, &parts, start)?;
-    Ok(SaidTag {
-        tag,
-        closes: parts.closes,
-    })
+    let own = tag_name(&page[..end], start);
+    let name = put_name(store, alloc, own)?;
+    let closes = put_attributes(store, alloc, room, own.end, end)?;
+    let tag = put_tag(store, name, room.as_slice())?;
+    Ok(SaidTag { tag, closes })
 }
 
 /// The characters that a text says, which is read in this mode.
@@ -77,8 +76,14 @@ pub(crate) fn text(
     ensures within { IfOk result (λ span. IsTrue (is_span store.new span)) }
     ensures grows { Grows store.old store.new }
 {
-    let page = store.page;
-    let said = characters(alloc, mode, &page[start..end])?;
+    let bytes = &store.page[start..end];
+    if is_plain(mode, bytes) {
+        return Ok(Span {
+            start: start as u32,
+            len: (end - start) as u32,
+        });
+    }
+    let said = decoded(alloc, mode, bytes)?;
     put_bytes(store, start, said.as_bytes())
 }
 

@@ -1,22 +1,22 @@
 //! The attributes of a tag, put into a store: the first of equal keys alone.
-ghost use Rattle.std.specs.Prelude.{IfOk, IsTrue, List, OnOk, [], length, map, ℕ, ◌++◌, ◌||◌, ◌≡◌, ◌≤◌};
+ghost use Rattle.std.specs.Prelude.{IfOk, IsTrue, OnOk, length, take, ◌++◌, ◌≡◌, ◌≤◌};
 ghost use Rattle.std.specs.List.{list_all};
-ghost use Rattle.std.specs.Str.{bytes_eq};
-ghost use Rattle.tl_dom_spec.specs.Tags.{has_attribute, html_tag};
+ghost use Rattle.tl_dom_spec.specs.Tags.{has_attribute};
 ghost use Rattle.tl_html_spec.specs.HtmlTokenizer.{OpenTag, with_attribute};
-ghost use Rattle.tl_html_parts.specs.Parts.{attribute_view, attributes_of, name_of, value_of, with_attributes};
-ghost use Rattle.tl_tree.specs.Inner.Said.{AreKeysOf, attributes_in, attributes_so_far};
+ghost use Rattle.tl_html_parts.specs.Parts.{name_of, value_of};
+ghost use Rattle.tl_html_parts.specs.Places.{IsPart, part_in};
+ghost use Rattle.tl_tree.specs.Inner.Said.{AreKeysBehind, IsRestRead, attributes_in, attributes_so_far, has_key, keys_in, tag_with, with_key};
 ghost use Rattle.tl_tree.specs.Inner.Store.{Grows, bytes_of, is_attribute, is_span, is_tag, list_in, tag_of};
 
 use crate::entries::{AttributeEntry, AttributeList, AttributeSpace, Namespace, TagEntry};
 use crate::error::GrowError;
 use crate::said_bytes::{put_name, put_value};
-use crate::said_places::{PartPlace, key_place, value_place};
 use crate::span::Span;
 use crate::store::Store;
 use std::alloc::Global;
 use std::collections::BTreeSet;
-use tl_html_parts::{AttributeParts, TagParts};
+use tl_html_parts::{AttributePlace, NextPart, next_part};
+use tl_names::element_name::ElementName;
 
 // So many keys are compared one by one.
 const FEW: usize = 16;
@@ -37,55 +37,61 @@ pub(crate) fn has_key(store: &Store<'_>, entries: &[AttributeEntry], key: Span) 
     false
 }
 
-// Puts the key of an attribute, and answers where its value may stand.
-fn put_key(
-    store: &mut Store<'_>,
+// Whether a key is one of those before it. It is compared with the first few of them; a set has the
+// others, and gets this one.
+fn is_repeated(
+    keys: &mut BTreeSet<Vec<u8>>,
+    store: &Store<'_>,
     alloc: Global,
-    attribute: AttributeParts<'_>,
-    place: usize,
-) -> Result<(Span, PartPlace), GrowError>
-    requires { place ≤ length store.old.page.now }
-    ensures stands { IfOk result (λ put.
-        bytes_of store.new put.0 ≡ name_of attribute.entry.key.now) }
-    ensures within { IfOk result (λ put. IsTrue (is_span store.new put.0)) }
-    ensures place { IfOk result (λ put. put.1.end ≤ length store.old.page.now) }
-    ensures grows { Grows store.old store.new }
+    entries: &[AttributeEntry],
+    key: Span,
+) -> Result<bool, GrowError>
+    requires keys { AreKeysBehind keys.old (keys_in store.now entries.now) }
+    requires entries { IsTrue (list_all (is_attribute store.now) entries.now) }
+    requires key { IsTrue (is_span store.now key) }
+    ensures repeated { IfOk result (λ is.
+        is ≡ has_key (bytes_of store.now key) (keys_in store.now entries.now)) }
+    ensures keys { OnOk result (AreKeysBehind keys.new
+        (with_key (keys_in store.now entries.now) (bytes_of store.now key))) }
 {
-    let key_at = key_place(store.page, place, attribute.key.len());
-    let value_at = value_place(store.page, key_at.end, attribute.value.len());
-    let key = put_name(store, alloc, key_at.start, attribute.key)?;
-    Ok((key, value_at))
+    if entries.len() < FEW {
+        return Ok(has_key(store, entries, key));
+    }
+    if has_key(store, &entries[..FEW], key) {
+        return Ok(true);
+    }
+    let own = store.bytes(key).to_vec(alloc)?;
+    let is_new = keys.insert(own)?;
+    Ok(!is_new)
 }
 
-// Puts an attribute behind those of its tag, unless its key, which was put, is one of theirs.
-fn put_unless(
-    is_repeated: bool,
+// Puts an attribute behind those of its tag, unless its key is there.
+fn put_attribute(
+    keys: &mut BTreeSet<Vec<u8>>,
     store: &mut Store<'_>,
     alloc: Global,
     entries: &mut Vec<AttributeEntry>,
-    key: Span,
-    value: &[u8],
-    place: usize,
+    attribute: AttributePlace,
 ) -> Result<(), GrowError>
+    requires key { IsPart name_of store.old.page.now attribute.key }
+    requires value { IsPart value_of store.old.page.now attribute.value }
+    requires keys { AreKeysBehind keys.old (keys_in store.old entries.old.items) }
     requires entries { IsTrue (list_all (is_attribute store.old) entries.old.items) }
-    requires key { IsTrue (is_span store.old key) }
-    requires is_repeated { is_repeated
-        ≡ has_attribute (bytes_of store.old key) (attributes_in store.old entries.old.items) }
     ensures stands { OnOk result ((tag : OpenTag) →
         attributes_in store.old entries.old.items ≡ attributes_so_far tag →
         attributes_in store.new entries.new.items
-        ≡ attributes_so_far (with_attribute tag (bytes_of store.old key) (value_of value.now))) }
-    ensures keys { OnOk result ((other : List ℕ) →
-        has_attribute other (attributes_in store.new entries.new.items)
-        ≡ (has_attribute other (attributes_in store.old entries.old.items)
-        || bytes_eq (bytes_of store.old key) other)) }
+        ≡ attributes_so_far (with_attribute tag
+        (name_of (part_in store.old.page.now attribute.key))
+        (value_of (part_in store.old.page.now attribute.value)))) }
+    ensures keys { OnOk result (AreKeysBehind keys.new (keys_in store.new entries.new.items)) }
     ensures within { OnOk result (IsTrue (list_all (is_attribute store.new) entries.new.items)) }
     ensures grows { Grows store.old store.new }
 {
-    if is_repeated {
+    let key = put_name(store, alloc, attribute.key)?;
+    if is_repeated(keys, store, alloc, entries, key)? {
         return Ok(());
     }
-    let value = put_value(store, alloc, place, value)?;
+    let value = put_value(store, alloc, attribute.value)?;
     entries.push(AttributeEntry {
         space: AttributeSpace::Plain,
         key,
@@ -94,145 +100,35 @@ fn put_unless(
     Ok(())
 }
 
-// Puts an attribute behind those of its tag, unless its key is there. Answers where it ends in the
-// page.
-fn put_attribute(
+/// The attributes of a tag that ends in the page at `end`, from a place after its name on. Answers
+/// whether it closes itself.
+pub(crate) fn put_attributes(
     store: &mut Store<'_>,
     alloc: Global,
     entries: &mut Vec<AttributeEntry>,
-    attribute: AttributeParts<'_>,
-    place: usize,
-) -> Result<usize, GrowError>
-    requires entries { IsTrue (list_all (is_attribute store.old) entries.old.items) }
-    requires place { place ≤ length store.old.page.now }
-    ensures stands { OnOk result ((tag : OpenTag) →
-        attributes_in store.old entries.old.items ≡ attributes_so_far tag →
-        attributes_in store.new entries.new.items
-        ≡ attributes_so_far (with_attribute tag (name_of attribute.entry.key.now)
-        (value_of attribute.entry.value.now))) }
-    ensures within { OnOk result (IsTrue (list_all (is_attribute store.new) entries.new.items)) }
-    ensures place { IfOk result (λ end. end ≤ length store.old.page.now) }
-    ensures grows { Grows store.old store.new }
-{
-    let (key, value_at) = put_key(store, alloc, attribute, place)?;
-    let is_repeated = has_key(store, entries, key);
-    put_unless(
-        is_repeated,
-        store,
-        alloc,
-        entries,
-        key,
-        attribute.value,
-        value_at.start,
-    )?;
-    Ok(value_at.end)
-}
-
-// The same where the keys of the attributes are in a set, which gets this one.
-fn put_attribute_among(
-    keys: &mut BTreeSet<Vec<u8>>,
-    store: &mut Store<'_>,
-    alloc: Global,
-    entries: &mut Vec<AttributeEntry>,
-    attribute: AttributeParts<'_>,
-    place: usize,
-) -> Result<usize, GrowError>
-    requires keys { AreKeysOf keys.old (attributes_in store.old entries.old.items) }
-    requires entries { IsTrue (list_all (is_attribute store.old) entries.old.items) }
-    requires place { place ≤ length store.old.page.now }
-    ensures stands { OnOk result ((tag : OpenTag) →
-        attributes_in store.old entries.old.items ≡ attributes_so_far tag →
-        attributes_in store.new entries.new.items
-        ≡ attributes_so_far (with_attribute tag (name_of attribute.entry.key.now)
-        (value_of attribute.entry.value.now))) }
-    ensures keys { OnOk result (AreKeysOf keys.new (attributes_in store.new entries.new.items)) }
-    ensures within { OnOk result (IsTrue (list_all (is_attribute store.new) entries.new.items)) }
-    ensures place { IfOk result (λ end. end ≤ length store.old.page.now) }
-    ensures grows { Grows store.old store.new }
-{
-    let (key, value_at) = put_key(store, alloc, attribute, place)?;
-    let own = store.bytes(key).to_vec(alloc)?;
-    let is_new = keys.insert(own)?;
-    put_unless(
-        !is_new,
-        store,
-        alloc,
-        entries,
-        key,
-        attribute.value,
-        value_at.start,
-    )?;
-    Ok(value_at.end)
-}
-
-// The attributes of a tag, which stand in the page from a place on: each key is compared with those
-// before it.
-fn put_few(
-    store: &mut Store<'_>,
-    alloc: Global,
-    entries: &mut Vec<AttributeEntry>,
-    attributes: &[AttributeParts<'_>],
-    place: usize,
-) -> Result<(), GrowError>
-    requires entries { length entries.old.items ≡ 0 }
-    requires place { place ≤ length store.old.page.now }
-    ensures stands { OnOk result ((tag : OpenTag) → attributes_so_far tag ≡ [] →
-        attributes_in store.new entries.new.items
-        ≡ attributes_so_far (with_attributes tag (map attribute_view attributes.now))) }
+    from: usize,
+    end: usize,
+) -> Result<bool, GrowError>
+    requires { end ≤ length store.old.page.now }
+    ensures read { IfOk result (λ closes. IsRestRead (take end store.old.page.now) from closes
+        (attributes_in store.new entries.new.items)) }
     ensures within { OnOk result (IsTrue (list_all (is_attribute store.new) entries.new.items)) }
     ensures grows { Grows store.old store.new }
 {
-    let mut from = place;
-    for attribute in attributes {
-        from = put_attribute(store, alloc, entries, *attribute, from)?;
-    }
-    Ok(())
-}
-
-// The same by a set of the keys, in linear time but for the logarithm of their number.
-fn put_many(
-    store: &mut Store<'_>,
-    alloc: Global,
-    entries: &mut Vec<AttributeEntry>,
-    attributes: &[AttributeParts<'_>],
-    place: usize,
-) -> Result<(), GrowError>
-    requires entries { length entries.old.items ≡ 0 }
-    requires place { place ≤ length store.old.page.now }
-    ensures stands { OnOk result ((tag : OpenTag) → attributes_so_far tag ≡ [] →
-        attributes_in store.new entries.new.items
-        ≡ attributes_so_far (with_attributes tag (map attribute_view attributes.now))) }
-    ensures within { OnOk result (IsTrue (list_all (is_attribute store.new) entries.new.items)) }
-    ensures grows { Grows store.old store.new }
-{
+    entries.clear();
+    let page = store.page;
+    let text = &page[..end];
     let mut keys = BTreeSet::new(alloc);
-    let mut from = place;
-    for attribute in attributes {
-        from = put_attribute_among(&mut keys, store, alloc, entries, *attribute, from)?;
+    let mut at = from;
+    loop {
+        match next_part(text, at) {
+            NextPart::Attribute(attribute) => {
+                put_attribute(&mut keys, store, alloc, entries, attribute)?;
+                at = attribute.end;
+            }
+            NextPart::End { closes } => return Ok(closes),
+        }
     }
-    Ok(())
-}
-
-// The attributes of a tag, which stand in the page from a place on.
-fn put_attributes(
-    store: &mut Store<'_>,
-    alloc: Global,
-    entries: &mut Vec<AttributeEntry>,
-    attributes: &[AttributeParts<'_>],
-    place: usize,
-) -> Result<(), GrowError>
-    requires entries { length entries.old.items ≡ 0 }
-    requires place { place ≤ length store.old.page.now }
-    ensures stands { OnOk result ((tag : OpenTag) → attributes_so_far tag ≡ [] →
-        attributes_in store.new entries.new.items
-        ≡ attributes_so_far (with_attributes tag (map attribute_view attributes.now))) }
-    ensures within { OnOk result (IsTrue (list_all (is_attribute store.new) entries.new.items)) }
-    ensures grows { Grows store.old store.new }
-{
-    if attributes.len() <= FEW {
-        return put_few(store, alloc, entries, attributes, place);
-    }
-    put_many(store, alloc, entries, attributes, place)
 }
 
 /// Puts attributes behind those of a list.
@@ -252,41 +148,29 @@ pub(crate) fn add_attributes(
     Ok(())
 }
 
-// What stands after the name of a tag that begins here.
-fn name_end(page: &[u8], start: usize, len: usize) -> usize
-    ensures { result ≤ length page.now }
-{
-    start.saturating_add(1).saturating_add(len).min(page.len())
-}
-
-/// A tag with its attributes, which begins in the page at this place.
+/// A tag with this name and these attributes.
 pub(crate) fn put_tag(
     store: &mut Store<'_>,
-    alloc: Global,
-    room: &mut Vec<AttributeEntry>,
-    parts: &TagParts<'_>,
-    start: usize,
+    name: Span,
+    attributes: &[AttributeEntry],
 ) -> Result<TagEntry, GrowError>
+    requires name { IsTrue (is_span store.old name) }
+    requires attributes { IsTrue (list_all (is_attribute store.old) attributes.now) }
     ensures stands { IfOk result (λ tag. tag_of store.new tag
-        ≡ html_tag (name_of parts.now.name.now)
-        (attributes_of (map attribute_view parts.now.attributes.items))) }
+        ≡ tag_with (bytes_of store.old name) (attributes_in store.old attributes.now)) }
     ensures within { IfOk result (λ tag. IsTrue (is_tag store.new tag)) }
     ensures grows { Grows store.old store.new }
 {
-    let page = store.page;
-    let name = put_name(store, alloc, start.saturating_add(1), parts.name)?;
-    room.clear();
-    let after = name_end(page, start, parts.name.len());
-    put_attributes(store, alloc, room, parts.attributes.as_slice(), after)?;
     let list = AttributeList::Tags;
     let first_attribute = store.attribute_count(list);
-    add_attributes(store, list, room.as_slice())?;
+    add_attributes(store, list, attributes)?;
     Ok(TagEntry {
         space: Namespace::Html,
         name,
-        known: 0,
+        known: ElementName::OTHER,
         list,
         first_attribute,
         attribute_count: store.attribute_count(list) - first_attribute,
+        start: 0,
     })
 }

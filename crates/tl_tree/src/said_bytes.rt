@@ -1,17 +1,16 @@
 //! Bytes, names and values, put into a store: in the page where they stand there as they are meant,
 //! else in the side buffer.
-ghost use Rattle.std.specs.Prelude.{Err, IfOk, IsTrue, drop, length, take, true, ◌+◌, ◌^◌, ◌≡◌, ◌≤◌};
+ghost use Rattle.std.specs.Prelude.{Err, IfOk, IsTrue, drop, length, take, ◌+◌, ◌^◌, ◌≡◌, ◌≤◌};
 ghost use Rattle.std.specs.Bool.{OnTrue};
-ghost use Rattle.tl_html_spec.specs.Unescaped.{unescaped_value};
 ghost use Rattle.tl_html_parts.specs.Parts.{name_of, value_of};
+ghost use Rattle.tl_html_parts.specs.Places.{IsPart, part_in};
 ghost use Rattle.tl_tree.specs.Inner.Store.{Grows, bytes_of, is_span};
 
 use crate::error::GrowError;
 use crate::span::Span;
 use crate::store::Store;
-use memchr::memchr;
 use std::alloc::Global;
-use tl_html_parts::characters;
+use tl_html_parts::{PartPlace, characters};
 use tl_html_tokens::Mode;
 use tl_html_write::lower_name;
 use tl_text::unescape_value;
@@ -49,45 +48,57 @@ pub(crate) fn put_bytes(
     store.add_bytes(bytes)
 }
 
-/// A name or a key, which is read in lower case.
+// A part of the page.
+fn page_span(store: &Store<'_>, part: PartPlace) -> Span
+    requires order { part.start ≤ part.end }
+    requires within { part.end ≤ length store.now.page.now }
+    ensures stands { bytes_of store.now result ≡ part_in store.now.page.now part }
+    ensures within { IsTrue (is_span store.now result) }
+{
+    Span {
+        start: part.start as u32,
+        len: (part.end - part.start) as u32,
+    }
+}
+
+/// A name or a key of the page, which is read in lower case.
 pub(crate) fn put_name(
     store: &mut Store<'_>,
     alloc: Global,
-    place: usize,
-    name: &[u8],
+    name: PartPlace,
 ) -> Result<Span, GrowError>
-    ensures stands { IfOk result (λ span. bytes_of store.new span ≡ name_of name.now) }
+    requires { IsPart name_of store.old.page.now name }
+    ensures stands { IfOk result (λ span.
+        bytes_of store.new span ≡ name_of (part_in store.old.page.now name)) }
     ensures within { IfOk result (λ span. IsTrue (is_span store.new span)) }
     ensures grows { Grows store.old store.new }
 {
-    let lower = lower_name(alloc, name)?;
-    put_bytes(store, place, lower.as_bytes())
+    if name.is_plain {
+        return Ok(page_span(store, name));
+    }
+    let page = store.page;
+    let lower = lower_name(alloc, &page[name.start..name.end])?;
+    store.add_bytes(lower.as_bytes())
 }
 
-// Whether a value has no reference.
-#[tactic(auto, using(crate::proofs::SaidTags::value_plain))]
-fn is_unescaped(value: &[u8]) -> bool
-    ensures { OnTrue result (unescaped_value value.now ≡ value.now) }
-{
-    memchr(b'&', value).is_none()
-}
-
-/// A value, of which references are read.
+/// A value of the page, of which references are read.
 pub(crate) fn put_value(
     store: &mut Store<'_>,
     alloc: Global,
-    place: usize,
-    value: &[u8],
+    value: PartPlace,
 ) -> Result<Span, GrowError>
-    ensures stands { IfOk result (λ span. bytes_of store.new span ≡ value_of value.now) }
+    requires { IsPart value_of store.old.page.now value }
+    ensures stands { IfOk result (λ span.
+        bytes_of store.new span ≡ value_of (part_in store.old.page.now value)) }
     ensures within { IfOk result (λ span. IsTrue (is_span store.new span)) }
     ensures grows { Grows store.old store.new }
 {
-    // A script has no references, so these are the characters before references are read.
-    let clean = characters(alloc, Mode::Script, value)?;
-    if is_unescaped(clean.as_bytes()) {
-        return put_bytes(store, place, clean.as_bytes());
+    if value.is_plain {
+        return Ok(page_span(store, value));
     }
+    let page = store.page;
+    // A script has no references, so these are the characters before references are read.
+    let clean = characters(alloc, Mode::Script, &page[value.start..value.end])?;
     let said = unescape_value(alloc, clean.as_bytes())?;
     store.add_bytes(said.as_slice())
 }

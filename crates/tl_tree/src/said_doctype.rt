@@ -11,9 +11,9 @@ use crate::doctype_reader::{DoctypeReader, Identifier};
 use crate::entries::DoctypeEntry;
 use crate::error::GrowError;
 use crate::said_bytes::put_bytes;
-use crate::said_places::after_quote;
 use crate::span::Span;
 use crate::store::Store;
+use memchr::memchr2;
 use std::alloc::Global;
 
 // What stands after `<!doctype`.
@@ -41,6 +41,19 @@ fn put_identifier(
     }
     let span = put_bytes(store, place, identifier.bytes.as_slice())?;
     Ok(Some(span))
+}
+
+// Past the first quote from a place on, or the end of the text.
+fn after_quote(text: &[u8], from: usize) -> usize
+    ensures { result ≤ length text.now }
+{
+    if from >= text.len() {
+        return text.len();
+    }
+    match memchr2(b'"', b'\'', &text[from..]) {
+        Some(at) => from + at + 1,
+        None => text.len(),
+    }
 }
 
 // Where the identifiers of a doctype may stand in its bytes: after its quotes.

@@ -28,8 +28,6 @@ use crate::store::Store;
 use crate::tree::Tree;
 use std::alloc::Global;
 
-const NO_SOURCE: Span = Span { start: 0, len: 0 };
-
 impl<'s, 'p> Settling<'s, 'p> {
     /// A row, before those that are written.
     fn push(&mut self, held: Held, behind: u32) -> Result<(), GrowError>
@@ -45,7 +43,6 @@ impl<'s, 'p> Settling<'s, 'p> {
             held,
             parent: 0,
             end: behind,
-            source: NO_SOURCE,
         })?;
         Ok(())
     }
@@ -315,16 +312,19 @@ pub(crate) fn settle(alloc: Global, store: &Store<'_>, row: u32) -> Result<Settl
     Ok(Settled { rows, copied })
 }
 
-/// The tree of a row of nodes. Nothing but this row is left of the store's cells.
+/// The tree of a row of nodes, with the places of the start tags. Nothing but this row is left of
+/// the store's cells.
 pub(crate) fn tree_of<'p>(
     alloc: Global,
     store: Store<'p>,
     row: u32,
+    sources: Vec<Span>,
     is_quirks: bool,
 ) -> Result<Tree<'p>, GrowError>
     requires { IsTrue (is_row store row) }
     ensures rows { IfOk result (λ tree.
         rows_in tree ≡ rows_of (before (nodes_of store.entry row) no_trees)) }
+    ensures sources { IfOk result (λ tree. tree.sources.items ≡ sources.items) }
     ensures quirks { IfOk result (λ tree. tree.is_quirks ≡ is_quirks) }
 {
     let made = settle(alloc, &store, row)?;
@@ -334,6 +334,7 @@ pub(crate) fn tree_of<'p>(
     Ok(Tree {
         store,
         rows: made.rows,
+        sources,
         is_quirks,
     })
 }

@@ -11,6 +11,7 @@ ghost use Rattle.tl_tree.specs.Inner.Stack.{inner, opened_from, retagged};
 ghost use Rattle.tl_tree.specs.Inner.Store.{is_tag_number, tag_at};
 
 use crate::frame::{Frame, Mark};
+use crate::names::Names;
 use crate::path::FramePath;
 use crate::test::{TagTest, Test};
 
@@ -76,7 +77,7 @@ impl<'a> FramePath<'a> {
         let first = self.next_open(0)?;
         let second = self.next_open(first + 1)?;
         let frame = self.frames[second];
-        let body = Test::Tag(TagTest::Any(b"body"));
+        let body = Test::Tag(TagTest::Any(Names::Body));
         if body.passes(&self.store, frame) {
             Some(Mark::new(frame.number, second))
         } else {

@@ -3,11 +3,11 @@
 //! Others may rely on this: what is in range in a store (`is_within` and its like in
 //! `specs/Inner/Store`) stands for the same in each store that begins with it (`Grows`;
 //! `proofs/Grown`), and each number that a store holds is in range (`Store`'s ghost fields).
-ghost use Rattle.std.specs.Prelude.{IsTrue, length, ◌+◌, ◌<◌, ◌^◌};
+ghost use Rattle.std.specs.Prelude.{IsTrue, length, map, ◌+◌, ◌++◌, ◌<◌, ◌^◌, ◌≡◌};
 ghost use Rattle.std.specs.List.{list_all};
 ghost use Rattle.tl_tree.specs.Inner.Lists.{in_list, many_in};
 ghost use Rattle.tl_tree.specs.declared.entries.AttributeList.{AttributeList};
-ghost use Rattle.tl_tree.specs.Inner.Within.{attribute_is_within, cells_are_within, doctype_is_within, tag_is_within};
+ghost use Rattle.tl_tree.specs.Inner.Within.{attribute_is_within, cells_are_within, doctype_is_within, known_in, known_of, tag_is_within};
 
 use crate::attribute_lists::AttributeLists;
 use crate::cell::{Cell, Node};
@@ -15,6 +15,7 @@ use crate::entries::{AttributeEntry, AttributeList, DoctypeEntry, TagEntry};
 use crate::error::GrowError;
 use crate::span::Span;
 use std::alloc::Global;
+use tl_names::element_name::ElementName;
 
 /// What was read of a page and is settled.
 #[derive(Drop)]
@@ -35,6 +36,8 @@ pub(crate) struct Store<'a> {
         (list_all
         (tag_is_within (length page.now) (length side.items) (many_in attributes))
         tags.items) },
+    ghost names_known: { map known_of tags.items
+        ≡ map (known_in (page.now ++ side.items)) tags.items },
     ghost doctypes_within: { IsTrue
         (list_all (doctype_is_within (length page.now) (length side.items)) doctypes.items) },
     ghost cells_within: { IsTrue
@@ -50,7 +53,8 @@ pub(crate) struct Store<'a> {
 }
 
 impl<'a> Store<'a> {
-    ghost use Rattle.std.specs.Prelude.{Err, IfOk, OnOk, [], ◌++◌, ◌↔◌, ◌∷◌, ◌≡◌, ◌≤◌};
+    ghost use Rattle.std.specs.Prelude.{Err, IfOk, OnOk, [], ◌↔◌, ◌∷◌, ◌≤◌};
+    ghost use Rattle.tl_names.specs.ElementNames.{name_of};
     ghost use Rattle.tl_dom_spec.specs.Path.{joined};
     ghost use Rattle.tl_tree.specs.Inner.Store.{Grows, bytes_of, doctype_at, doctype_of, is_attribute, is_doctype, is_doctype_number, is_node, is_row, is_span, is_tag, is_tag_number, list_in, node_of, nodes_of, tag_at, tag_of};
 
@@ -166,7 +170,8 @@ impl<'a> Store<'a> {
         if number >= u32::MAX as usize {
             return Err(GrowError::TooLarge);
         }
-        self.tags.push(tag)?;
+        let known = ElementName::of(self.bytes(tag.name));
+        self.tags.push(TagEntry { known, ..tag })?;
         Ok(number as u32)
     }
 
@@ -193,6 +198,7 @@ impl<'a> Store<'a> {
         requires { IsTrue (is_tag_number self.now number) }
         ensures stands { tag_of self.now result ≡ tag_at self.now number }
         ensures within { IsTrue (is_tag self.now result) }
+        ensures known { result.known ≡ name_of (bytes_of self.now result.name) }
     {
         self.tags[number as usize]
     }

@@ -20,7 +20,7 @@ use crate::error::GrowError;
 use crate::group::group_of;
 use crate::token::Token;
 use std::alloc::Global;
-use tl_html_parts::tag_parts;
+use tl_html_parts::tag_name;
 use tl_html_tokens::Mode;
 use tl_html_write::lower_name;
 use tl_names::element_name::ElementName;
@@ -123,8 +123,12 @@ impl<'a> Builder<'a> {
             ≡ token_done (builder_of self.old) (an_end (group name) name)) }
         ensures page { (token_of self.new).page ≡ (token_of self.old).page }
     {
-        let parts = tag_parts(alloc, bytes)?;
-        let lower = lower_name(alloc, parts.name)?;
+        let name = tag_name(bytes, 0);
+        let raw = &bytes[name.start..name.end];
+        if name.is_plain {
+            return self.take_end(raw);
+        }
+        let lower = lower_name(alloc, raw)?;
         self.take_end(lower.as_bytes())
     }
 }

@@ -1,17 +1,18 @@
 //! Tests of elements.
-ghost use Rattle.std.specs.Prelude.{IsTrue, ◌≡◌};
-ghost use Rattle.tl_dom_spec.specs.Tags.{is_any, is_heading, is_implied, is_implied_thoroughly, is_scope, is_item_bound, is_math_mark, is_special, is_special_name, is_svg_mark};
+ghost use Rattle.std.specs.Prelude.{IsTrue, List, codes, ◌≡◌, ℕ};
+ghost use Rattle.tl_dom_spec.specs.Tags.{is_any, is_heading, is_implied, is_implied_thoroughly, is_scope, is_item_bound, is_special, is_special_name};
 ghost use Rattle.tl_html_spec.specs.Balanced.{is_one_of};
-ghost use Rattle.tl_names.specs.Elements.{is_among};
-ghost use Rattle.tl_names.specs.TagSets.{names_in};
+ghost use Rattle.tl_names.specs.ElementNames.{name_of};
+ghost use Rattle.tl_tree.specs.Inner.NameLists.{list_of};
 ghost use Rattle.tl_tree.specs.Inner.Frames.{frame_of, test_of, test_or_other};
-ghost use Rattle.tl_tree.specs.Inner.Store.{is_tag_number, tag_at};
+ghost use Rattle.tl_tree.specs.Inner.Roles.{is_decisive};
+ghost use Rattle.tl_tree.specs.Inner.Store.{bytes_of, is_tag, is_tag_number, tag_at, tag_of};
 ghost use Rattle.tl_tree.specs.Inner.Tests.{named, tag_test_of};
-ghost use Rattle.tl_tree.specs.declared.entries.Namespace.TheVariants.{Math, Svg};
 
-use crate::entries::Namespace;
+use crate::entries::{Namespace, TagEntry};
 use crate::frame::Frame;
 use crate::integration::is_html_place;
+use crate::names::Names;
 use crate::store::Store;
 use tl_names::class::Class;
 use tl_names::element_name::ElementName;
@@ -20,14 +21,14 @@ use tl_names::element_name::ElementName;
 #[derive(Clone, Copy)]
 pub(crate) enum TagTest<'n> {
     Nothing,
-    /// HTML elements of these names, with a space between each two.
-    Any(&'n [u8]),
+    /// HTML elements of these names.
+    Any(Names),
     /// HTML elements of this name.
     Named(&'n [u8]),
     /// What bounds a scope.
     Scope,
     /// That, and HTML elements of these names.
-    ScopeOr(&'n [u8]),
+    ScopeOr(Names),
     Heading,
     /// Those whose end tags are implied, thoroughly.
     ImpliedThoroughly,
@@ -57,106 +58,100 @@ pub(crate) fn is_one_of(words: &[u8], name: &[u8]) -> bool
     words.split(|byte| *byte == b' ').any(|word| name == word)
 }
 
-pub(crate) fn is_any(names: &[u8], space: Namespace, name: &[u8]) -> bool
-    ensures { result ≡ is_any names.now (named space name.now) }
+// Elements of a namespace by the numbers of their names
+
+pub(crate) fn is_any(names: Names, space: Namespace, name: ElementName) -> bool
+    ensures { (n : List ℕ) → name ≡ name_of n
+        → result ≡ is_any (list_of names) (named space n) }
 {
-    space.is_html() && is_one_of(names, name)
+    space.is_html() && names.has(name)
 }
 
-// Whether a name is of a class.
-#[tactic(auto, using(tl_names::proofs::TagSets::class_of_name))]
-pub(crate) fn is_of(class: Class, name: &[u8]) -> bool
-    ensures { result ≡ is_among (names_in class) name.now }
+fn is_implied(space: Namespace, name: ElementName) -> bool
+    ensures { (n : List ℕ) → name ≡ name_of n → result ≡ is_implied (named space n) }
 {
-    ElementName::of(name).is(class)
+    space.is_html() && name.is(Class::Implied)
 }
 
-#[tactic(auto, unfolding(tl_names::specs::TagSets::names_in))]
-fn is_implied(space: Namespace, name: &[u8]) -> bool
-    ensures { result ≡ is_implied (named space name.now) }
+fn is_implied_thoroughly(space: Namespace, name: ElementName) -> bool
+    ensures { (n : List ℕ) → name ≡ name_of n → result ≡ is_implied_thoroughly (named space n) }
 {
-    space.is_html() && is_of(Class::Implied, name)
+    space.is_html() && name.is(Class::ImpliedThoroughly)
 }
 
-#[tactic(auto, unfolding(tl_names::specs::TagSets::names_in))]
-fn is_implied_thoroughly(space: Namespace, name: &[u8]) -> bool
-    ensures { result ≡ is_implied_thoroughly (named space name.now) }
+fn is_heading(space: Namespace, name: ElementName) -> bool
+    ensures { (n : List ℕ) → name ≡ name_of n → result ≡ is_heading (named space n) }
 {
-    space.is_html() && is_of(Class::ImpliedThoroughly, name)
+    space.is_html() && name.is(Class::Heading)
 }
 
-#[tactic(auto, unfolding(tl_names::specs::TagSets::names_in))]
-fn is_heading(space: Namespace, name: &[u8]) -> bool
-    ensures { result ≡ is_heading (named space name.now) }
-{
-    space.is_html() && is_of(Class::Heading, name)
-}
-
-// What bounds scopes, and is special, of MathML and of SVG.
-#[tactic(auto, unfolding(tl_names::specs::TagSets::names_in))]
-fn is_math_mark(name: &[u8]) -> bool
-    ensures { result ≡ is_math_mark (named Math name.now) }
-{
-    is_of(Class::MathMark, name)
-}
-
-#[tactic(auto, unfolding(tl_names::specs::TagSets::names_in))]
-fn is_svg_mark(name: &[u8]) -> bool
-    ensures { result ≡ is_svg_mark (named Svg name.now) }
-{
-    is_of(Class::SvgMark, name)
-}
-
-#[tactic(auto, unfolding(tl_names::specs::TagSets::names_in))]
-pub(crate) fn is_scope(space: Namespace, name: &[u8]) -> bool
-    ensures { result ≡ is_scope (named space name.now) }
+pub(crate) fn is_scope(space: Namespace, name: ElementName) -> bool
+    ensures { (n : List ℕ) → name ≡ name_of n → result ≡ is_scope (named space n) }
 {
     match space {
-        Namespace::Html => is_of(Class::Scope, name),
-        Namespace::Math => is_math_mark(name),
-        Namespace::Svg => is_svg_mark(name),
+        Namespace::Html => name.is(Class::Scope),
+        Namespace::Math => name.is(Class::MathMark),
+        Namespace::Svg => name.is(Class::SvgMark),
     }
 }
 
-#[tactic(auto, unfolding(tl_names::specs::TagSets::names_in))]
-fn is_special_name(counts_search: bool, name: &[u8]) -> bool
-    ensures { result ≡ is_special_name counts_search name.now }
+fn is_special_name(counts_search: bool, name: ElementName) -> bool
+    ensures { (n : List ℕ) → name ≡ name_of n → result ≡ is_special_name counts_search n }
 {
-    is_of(Class::Special, name) && (counts_search || name != b"search".as_slice())
+    name.is(Class::Special) && (counts_search || name != ElementName::SEARCH)
 }
 
-pub(crate) fn is_special(counts_search: bool, space: Namespace, name: &[u8]) -> bool
-    ensures { result ≡ is_special counts_search (named space name.now) }
+pub(crate) fn is_special(counts_search: bool, space: Namespace, name: ElementName) -> bool
+    ensures { (n : List ℕ) → name ≡ name_of n
+        → result ≡ is_special counts_search (named space n) }
 {
     match space {
         Namespace::Html => is_special_name(counts_search, name),
-        Namespace::Math => is_math_mark(name),
-        Namespace::Svg => is_svg_mark(name),
+        Namespace::Math => name.is(Class::MathMark),
+        Namespace::Svg => name.is(Class::SvgMark),
     }
 }
 
-#[tactic(auto, unfolding(tl_names::specs::TagSets::names_in))]
-pub(crate) fn is_item_bound(counts_search: bool, space: Namespace, name: &[u8]) -> bool
-    ensures { result ≡ is_item_bound counts_search (named space name.now) }
+// Whether a search for an item goes past an element though it is special.
+fn is_passed_over(space: Namespace, name: ElementName) -> bool
+    ensures { (n : List ℕ) → name ≡ name_of n
+        → result ≡ is_any (codes "address div p") (named space n) }
 {
-    is_special(counts_search, space, name)
-        && !(space.is_html() && is_of(Class::AddressDivParagraph, name))
+    space.is_html() && name.is(Class::AddressDivParagraph)
+}
+
+pub(crate) fn is_item_bound(counts_search: bool, space: Namespace, name: ElementName) -> bool
+    ensures { (n : List ℕ) → name ≡ name_of n
+        → result ≡ is_item_bound counts_search (named space n) }
+{
+    is_special(counts_search, space, name) && !is_passed_over(space, name)
+}
+
+/// Whether an element may decide the insertion mode.
+pub(crate) fn is_decisive(space: Namespace, name: ElementName) -> bool
+    ensures { (n : List ℕ) → name ≡ name_of n → result ≡ is_decisive (named space n) }
+{
+    space.is_html() && name.is(Class::Decisive)
 }
 
 impl<'n> TagTest<'n> {
-    fn is(self, space: Namespace, name: &[u8]) -> bool
-        ensures { result ≡ tag_test_of self.entry (named space name.now) }
+    fn is(self, store: &Store<'_>, tag: TagEntry) -> bool
+        requires within { IsTrue (is_tag store.now tag) }
+        requires known { tag.known ≡ name_of (bytes_of store.now tag.name) }
+        ensures { result ≡ tag_test_of self.entry (tag_of store.now tag) }
     {
         match self {
             TagTest::Nothing => false,
-            TagTest::Any(names) => is_any(names, space, name),
-            TagTest::Named(own) => space.is_html() && own == name,
-            TagTest::Scope => is_scope(space, name),
-            TagTest::ScopeOr(names) => is_scope(space, name) || is_any(names, space, name),
-            TagTest::Heading => is_heading(space, name),
-            TagTest::ImpliedThoroughly => is_implied_thoroughly(space, name),
-            TagTest::Special(counts_search) => is_special(counts_search, space, name),
-            TagTest::ItemBound(counts_search) => is_item_bound(counts_search, space, name),
+            TagTest::Any(names) => is_any(names, tag.space, tag.known),
+            TagTest::Named(own) => tag.space.is_html() && own == store.bytes(tag.name),
+            TagTest::Scope => is_scope(tag.space, tag.known),
+            TagTest::ScopeOr(names) => {
+                is_scope(tag.space, tag.known) || is_any(names, tag.space, tag.known)
+            }
+            TagTest::Heading => is_heading(tag.space, tag.known),
+            TagTest::ImpliedThoroughly => is_implied_thoroughly(tag.space, tag.known),
+            TagTest::Special(counts_search) => is_special(counts_search, tag.space, tag.known),
+            TagTest::ItemBound(counts_search) => is_item_bound(counts_search, tag.space, tag.known),
         }
     }
 
@@ -165,8 +160,7 @@ impl<'n> TagTest<'n> {
         requires { IsTrue (is_tag_number store.now number) }
         ensures { result ≡ tag_test_of self.entry (tag_at store.now number) }
     {
-        let tag = store.tag(number);
-        self.is(tag.space, store.bytes(tag.name))
+        self.is(store, store.tag(number))
     }
 }
 
@@ -176,7 +170,7 @@ fn is_implied_tag(store: &Store<'_>, number: u32) -> bool
     ensures { result ≡ is_implied (tag_at store.now number) }
 {
     let tag = store.tag(number);
-    is_implied(tag.space, store.bytes(tag.name))
+    is_implied(tag.space, tag.known)
 }
 
 impl<'n> Test<'n> {

@@ -1,9 +1,9 @@
 //! A token, which is reprocessed as long as the rules say so (13.2.6).
 ghost use Rattle.std.specs.Prelude.{IfOk, OnOk, ◌≡◌};
 ghost use Rattle.tl_dom_spec.specs.Builder.{Again, repeated};
-ghost use Rattle.tl_dom_spec.specs.Dispatcher.{bound, calm, dispatch, is_line_feed, token_done};
+ghost use Rattle.tl_dom_spec.specs.Dispatcher.{bound, calm, dispatch, is_line_feed, starts_behind};
 ghost use Rattle.tl_tree.specs.Inner.Builders.{Said, builder_of, token_of, token_view};
-ghost use Rattle.tl_tree.specs.Inner.Taking.{is_skipped, taken};
+ghost use Rattle.tl_tree.specs.Inner.Taking.{is_skipped, taken, token_taken};
 
 use crate::builder::Builder;
 use crate::error::GrowError;
@@ -75,13 +75,37 @@ impl<'a> Builder<'a> {
         self.process(token)
     }
 
-    /// Takes a token.
-    pub(crate) fn take_token(&mut self, token: Token<'_>) -> Result<(), GrowError>
-        ensures ok { OnOk result (builder_of self.new
-            ≡ token_done (builder_of self.old) (token_view token.entry (token_of self.old))) }
+    // The number of the next start tag, once this token is taken.
+    #[tactic(auto, unfolding(crate::specs::Inner::Builders::builder_of))]
+    fn starts_behind(&self, token: Token<'_>) -> Result<u32, GrowError>
+        ensures { IfOk result (λ starts. starts
+            ≡ starts_behind (builder_of self.now).starts
+            (token_view token.entry (token_of self.now))) }
+    {
+        match token {
+            Token::Start { .. } => self.starts.checked_add(1).ok_or(GrowError::TooLarge),
+            _ => Ok(self.starts),
+        }
+    }
+
+    // How many start tags were taken.
+    fn set_starts(&mut self, starts: u32)
+        ensures ok { builder_of self.new ≡ record (builder_of self.old) { starts = starts } }
         ensures token { token_of self.new ≡ token_of self.old }
     {
+        self.starts = starts;
+    }
+
+    /// Takes a token, where a start tag has its number already.
+    pub(crate) fn take_token(&mut self, token: Token<'_>) -> Result<(), GrowError>
+        ensures ok { OnOk result (builder_of self.new
+            ≡ token_taken (builder_of self.old) (token_view token.entry (token_of self.old))) }
+        ensures token { token_of self.new ≡ token_of self.old }
+    {
+        let starts = self.starts_behind(token)?;
         self.take(token)?;
-        self.count_token()
+        self.count_token()?;
+        self.set_starts(starts);
+        Ok(())
     }
 }

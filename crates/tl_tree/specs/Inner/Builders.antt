@@ -40,6 +40,7 @@ builder_of b = record {
   tokens = b.tokens;
   added = b.added;
   excess = b.excess;
+  starts = b.starts;
   flags = flags_of b.flags;
 }
 

@@ -1,6 +1,6 @@
 -- What a store stands for, in words of `tl_dom_spec`, and what it is to grow.
 use Rattle.std.specs.Option.{option_map}
-use Rattle.std.specs.Prelude.{Bool, List, [], drop, length, map, nat_le, nat_lt, slice_index_or, take, ℕ, ◌++◌, ◌≡◌, ◌∷◌}
+use Rattle.std.specs.Prelude.{Bool, List, None, Option, Some, [], drop, length, map, nat_le, nat_lt, slice_index_or, suc, take, zero, ℕ, ◌++◌, ◌≡◌, ◌∷◌}
 use Rattle.tl_dom_spec.specs.Path.{Nodes, and_comment, and_doctype, and_element, and_text, joined, no_nodes}
 use Rattle.tl_dom_spec.specs.Tags as dom
 use Rattle.tl_html_spec.specs.Doctypes as doctypes
@@ -89,11 +89,17 @@ list_in s list = in_list s.attributes list
 abbrev pub entries_of : Store → TagEntry → List AttributeEntry
 entries_of s t = take t.attribute_count (drop t.first_attribute (list_in s t.list))
 
+-- the number of the start tag: that before this one
+abbrev pub source_of : ℕ → Option ℕ
+source_of zero = None
+source_of (suc n) = Some n
+
 unfoldable pub tag_of : Store → TagEntry → dom.Tag
 tag_of s t = record {
   space = space_of t.space;
   name = bytes_of s t.name;
   attributes = map (attribute_of s) (entries_of s t);
+  source = source_of t.start;
 }
 
 unfoldable pub doctype_of : Store → DoctypeEntry → doctypes.Doctype

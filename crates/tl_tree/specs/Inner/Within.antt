@@ -1,5 +1,7 @@
 -- Which numbers of a store are in range: each is one of something that was put in earlier.
-use Rattle.std.specs.Prelude.{Bool, List, None, Option, Some, [], nat_le, nat_lt, suc, true, ℕ, ◌&&◌, ◌+◌, ◌||◌, ◌∷◌}
+use Rattle.std.specs.Prelude.{Bool, List, None, Option, Some, [], nat_le, nat_lt, drop, suc, take, true, ℕ, ◌&&◌, ◌+◌, ◌||◌, ◌∷◌}
+use Rattle.tl_names.specs.ElementNames.{name_of}
+use Rattle.tl_names.specs.declared.element_name.ElementName.{ElementName}
 use Rattle.tl_tree.specs.declared.cell.Cell.{Cell}
 use Rattle.tl_tree.specs.declared.cell.Node.{Node}
 use Rattle.tl_tree.specs.declared.cell.Node.TheVariants.{Comment, Doctype, Element, Joined, Text}
@@ -57,3 +59,10 @@ abbrev pub cells_are_within : Sizes → ℕ → List Cell → Bool
 cells_are_within sizes rows [] = true
 cells_are_within sizes rows (c ∷ cells) =
     cell_is_within sizes rows c && cells_are_within sizes (suc rows) cells
+
+-- the number that a tag has for its name, and the one that its bytes have in a text
+abbrev pub known_of : TagEntry → ElementName
+known_of t = t.known
+
+abbrev pub known_in : List ℕ → TagEntry → ElementName
+known_in text t = name_of (take t.name.len (drop t.name.start text))

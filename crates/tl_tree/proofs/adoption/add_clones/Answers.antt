@@ -1,10 +1,11 @@
-use Rattle.std.proofs.Common.{ap, arith, sym, ◌-◌, ◌∙◌}
+use Rattle.std.proofs.Common.{ap, arith, length, sym, ◌-◌, ◌∙◌}
 use Rattle.tl_dom_spec.specs.Adoption.{cloned}
 use Rattle.tl_dom_spec.specs.Path as dom
 use Rattle.tl_tree.proofs.Cloned.{between, between-other, between-own, frame-outside, made-ends, made-more}
 use Rattle.tl_tree.proofs.Furthest.{frame-there}
 use Rattle.tl_tree.specs.Inner.Active.{active_of}
 use Rattle.tl_tree.specs.Inner.Adopted.{with_element}
+use Rattle.tl_tree.specs.declared.store.Store.{Store}
 use Rattle.tl_tree.proofs.adoption.add_clones.Goals as goal
 
 pub returns-then-index-number-clause-ok : goal.returns-then-index-number-clause-ok
@@ -56,4 +57,12 @@ loop-left-preserved c =
       more = omega arith;
       numbered = c.clone_at.ensures.numbered;
       tag = c.clone_at.ensures.tag ∙ c.loop-left.invariant.tag;
+      tallied = c.clone_at.ensures.tallied;
     }
+
+pub clone_at-requires-clause-listed : goal.clone_at-requires-clause-listed
+clone_at-requires-clause-listed c =
+    let own = c.requires.listed in
+    let tag = c.loop-left.invariant.tag in
+    let many = ap (λ (s : Store). length s.tags.items) c.loop-left.invariant.store in
+    omega arith

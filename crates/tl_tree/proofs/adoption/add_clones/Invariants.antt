@@ -3,6 +3,7 @@ use Rattle.tl_dom_spec.specs.Adoption.{cloned}
 use Rattle.tl_tree.proofs.Cloned.{between}
 use Rattle.tl_tree.specs.Inner.Active.{active_of}
 use Rattle.tl_tree.specs.Inner.Adopted.{AreMade}
+use Rattle.tl_tree.specs.Inner.Tallied.{IsTallied}
 use Rattle.tl_tree.proofs.adoption.add_clones.Given as goal
 
 abbrev pub invariant-loop-left : goal.invariant-loop-left
@@ -17,6 +18,7 @@ invariant-loop-left l =
       more : p.next ≤ l.path.next;
       numbered : l.active.greatest_number < l.path.next;
       tag : l.active.greatest_tag ≡ l.fn.active.greatest_tag;
+      tallied : IsTallied l.path.store l.active;
     }
 
 abbrev pub decreases-loop-left : goal.decreases-loop-left

@@ -6,10 +6,12 @@ use Rattle.tl_tree.proofs.Adopted.{cloned-first, cloned-next, made-all, path-ado
 use Rattle.tl_tree.proofs.Cloned.{made-length}
 use Rattle.tl_tree.proofs.Entering.{same-path}
 use Rattle.tl_tree.proofs.Readopted.{outside-part}
+use Rattle.tl_tree.proofs.Tallies.{tallied-grown}
 use Rattle.tl_tree.specs.Inner.Active.{active_of, listed_of}
 use Rattle.tl_tree.specs.Inner.Adopted.{IsFirst, adopted_entries, adopted_path, clones_in, frame_at, outer_in, renewed}
 use Rattle.tl_tree.specs.Inner.Frames.{frames_of, path_of}
 use Rattle.tl_tree.specs.Inner.Store.{Grows, tag_at}
+use Rattle.tl_tree.specs.Inner.Tallied.{IsTallied}
 use Rattle.tl_tree.specs.declared.store.Store.{Store}
 use Rattle.tl_tree.proofs.adoption.adopt_far.Goals as goal
 
@@ -86,3 +88,35 @@ returns-clause-ok c =
           ∙ (c.settle_outside.ensures.next ∙ (c.in_ok-renew.ensures.next ∙ omega arith));
       made = omega arith;
     }
+
+pub returns-in_err-settle_outside-clause-tallied : goal.returns-in_err-settle_outside-clause-tallied
+returns-in_err-settle_outside-clause-tallied c =
+    let p = c.args.path.now in
+    let r = c.renew.new.self in
+    let t = c.settle_outside.new.self in
+    let list = c.list_new.new.active in
+    let least = c.list_new.ensures.tag (length p.store.tags.items) (omega (arith, c.add_clones.ensures.tag, c.requires.listed)) c.requires.own in
+    let many = ap (λ (s : Store). length s.tags.items) (c.renew.ensures.store ∙ c.add_clones.ensures.store) in
+    tallied-grown r.store t.store c.settle_outside.ensures.grows list (omega (arith, many, least)) c.list_new.ensures.tallied
+
+pub returns-in_err-enter_frames-clause-tallied : goal.returns-in_err-enter_frames-clause-tallied
+returns-in_err-enter_frames-clause-tallied c =
+    let p = c.args.path.now in
+    let r = c.renew.new.self in
+    let t = c.settle_outside.new.self in
+    let list = c.list_new.new.active in
+    let least = c.list_new.ensures.tag (length p.store.tags.items) (omega (arith, c.add_clones.ensures.tag, c.requires.listed)) c.requires.own in
+    let many = ap (λ (s : Store). length s.tags.items) (c.renew.ensures.store ∙ c.add_clones.ensures.store) in
+    subst (λ (s : Store). IsTallied s list) (sym c.enter_frames.ensures.store)
+    (tallied-grown r.store t.store c.settle_outside.ensures.grows list (omega (arith, many, least)) c.list_new.ensures.tallied)
+
+pub returns-clause-tallied : goal.returns-clause-tallied
+returns-clause-tallied c =
+    let p = c.args.path.now in
+    let r = c.renew.new.self in
+    let t = c.settle_outside.new.self in
+    let list = c.list_new.new.active in
+    let least = c.list_new.ensures.tag (length p.store.tags.items) (omega (arith, c.add_clones.ensures.tag, c.requires.listed)) c.requires.own in
+    let many = ap (λ (s : Store). length s.tags.items) (c.renew.ensures.store ∙ c.add_clones.ensures.store) in
+    subst (λ (s : Store). IsTallied s list) (sym c.enter_frames.ensures.store)
+    (tallied-grown r.store t.store c.settle_outside.ensures.grows list (omega (arith, many, least)) c.list_new.ensures.tallied)

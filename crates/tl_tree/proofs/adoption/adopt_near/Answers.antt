@@ -1,8 +1,10 @@
-use Rattle.std.proofs.Common.{ap, arith, ◌+◌, ◌∙◌}
+use Rattle.std.proofs.Common.{ap, arith, subst, sym, ◌+◌, ◌∙◌}
 use Rattle.tl_tree.proofs.ActiveNumbers.{active-grown}
 use Rattle.tl_tree.proofs.AdoptedNear.{adopted-near}
 use Rattle.tl_tree.proofs.Entering.{same-path}
+use Rattle.tl_tree.proofs.Tallies.{tallied-grown}
 use Rattle.tl_tree.specs.Inner.Active.{active_of, listed_of}
+use Rattle.tl_tree.specs.Inner.Tallied.{IsTallied}
 use Rattle.tl_tree.specs.declared.store.Store.{Store}
 use Rattle.tl_tree.proofs.adoption.adopt_near.Goals as goal
 
@@ -20,3 +22,21 @@ returns-clause-ok c =
     (same-path r u c.enter_frames.ensures.frames c.enter_frames.ensures.store)
     active
     (c.enter_frames.ensures.next ∙ (c.in_ok-renew_near.ensures.next ∙ omega arith))
+
+pub returns-in_err-renew_near-clause-tallied : goal.returns-in_err-renew_near-clause-tallied
+returns-in_err-renew_near-clause-tallied c =
+    tallied-grown c.args.path.now.store c.renew_near.new.self.store c.renew_near.ensures.grows c.args.active.now c.requires.listed c.requires.tallied
+
+pub returns-in_err-enter_frames-clause-tallied : goal.returns-in_err-enter_frames-clause-tallied
+returns-in_err-enter_frames-clause-tallied c =
+    let p = c.args.path.now in
+    let list = c.relist.new.self in
+    subst (λ (s : Store). IsTallied s list) (sym c.enter_frames.ensures.store)
+    (tallied-grown p.store c.renew_near.new.self.store c.renew_near.ensures.grows list (omega (arith, c.relist.ensures.tag, c.requires.listed)) (c.relist.ensures.tallied p.store c.requires.tallied))
+
+pub returns-clause-tallied : goal.returns-clause-tallied
+returns-clause-tallied c =
+    let p = c.args.path.now in
+    let list = c.relist.new.self in
+    subst (λ (s : Store). IsTallied s list) (sym c.enter_frames.ensures.store)
+    (tallied-grown p.store c.renew_near.new.self.store c.renew_near.ensures.grows list (omega (arith, c.relist.ensures.tag, c.requires.listed)) (c.relist.ensures.tallied p.store c.requires.tallied))

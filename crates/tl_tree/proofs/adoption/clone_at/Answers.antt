@@ -1,4 +1,4 @@
-use Rattle.std.proofs.Common.{ap, arith, length, refl, suc, sym, ◌<◌, ◌≡◌, ◌∙◌}
+use Rattle.std.proofs.Common.{ap, arith, length, refl, subst, suc, sym, ◌<◌, ◌≡◌, ◌∙◌}
 use Rattle.std.proofs.lemmas.Bool.{le-ltb, lt-ltb}
 use Rattle.tl_dom_spec.specs.Adoption.{cloned}
 use Rattle.tl_dom_spec.specs.Formatting.{is_listed, relisted, unlisted}
@@ -8,6 +8,7 @@ use Rattle.tl_tree.proofs.Furthest.{frame-there}
 use Rattle.tl_tree.proofs.Sought.{is-opened, is-shut}
 use Rattle.tl_tree.specs.Inner.Active.{active_of}
 use Rattle.tl_tree.specs.Inner.Adopted.{frame_at}
+use Rattle.tl_tree.specs.Inner.Tallied.{IsTallied}
 use Rattle.tl_tree.specs.declared.adoption.Between.{Between}
 use Rattle.tl_tree.specs.declared.store.Store.{Store}
 use Rattle.tl_tree.proofs.adoption.clone_at.Goals as goal
@@ -75,3 +76,11 @@ returns-clause-ok c = λ fs.
     (new-clone p q c.args.block f own there c.in_ok-insert_frame.ensures.frames)
     (cloned-one c.args.between.seen after.seen own fs entries (active_of q.store c.relist.new.self) p.next q.next opened some (le-ltb 2 c.args.between.seen c.if-between-gt2.false) seen others next)
     (ap (λ (b : Between). b.made) c.cloned.ensures)
+
+pub returns-in_err-insert_frame-clause-tallied : goal.returns-in_err-insert_frame-clause-tallied
+returns-in_err-insert_frame-clause-tallied c =
+    subst (λ (s : Store). IsTallied s c.args.active.now) (sym c.insert_frame.ensures.store) c.requires.tallied
+
+pub returns-clause-tallied : goal.returns-clause-tallied
+returns-clause-tallied c =
+    subst (λ (s : Store). IsTallied s c.relist.new.self) (sym c.insert_frame.ensures.store) (c.relist.ensures.tallied c.args.path.now.store c.requires.tallied)

@@ -1,16 +1,21 @@
-use Rattle.std.proofs.Common.{codes, false, true, ◌∙◌}
+use Rattle.std.proofs.Common.{codes, false, refl, true, ◌∙◌}
 use Rattle.tl_dom_spec.specs.Tags as dom
 use Rattle.tl_html_spec.specs.Balanced.{is_one_of}
 use Rattle.tl_names.specs.TagSets.{names_in}
+use Rattle.tl_names.specs.declared.class.Class.TheVariants.{MathText}
+use Rattle.tl_tree.proofs.NumberedNames.{class-told}
 use Rattle.tl_tree.proofs.Pointed.{named-in, not-in}
-use Rattle.tl_tree.specs.Inner.Store.{tag_at}
+use Rattle.tl_tree.specs.Inner.Store.{bytes_of, tag_at}
 use Rattle.tl_tree.proofs.integration.is_text_integration_point.Goals as goal
 
 pub returns-then-is_math : goal.returns-then-is_math
 unfolding names_in
 returns-then-is_math c =
-    c.is_of.ensures
-    ∙ named-in (λ (space : dom.Namespace). dom.by_space space false true false) (codes "mi mo mn ms mtext") c.args.store.now c.args.number c.tag-tag.result c.tag-tag.ensures.stands c.is_math.result c.is_math.ensures c.if-is_math.true c.bytes.result.now c.bytes.ensures
+    let own = c.tag-tag.result in
+    let name = bytes_of c.args.store.now own.name in
+    c.is.ensures
+    ∙ class-told MathText own.known name c.tag-tag.ensures.known
+    ∙ named-in (λ (space : dom.Namespace). dom.by_space space false true false) (codes "mi mo mn ms mtext") c.args.store.now c.args.number c.tag-tag.result c.tag-tag.ensures.stands c.is_math.result c.is_math.ensures c.if-is_math.true name refl
 
 pub returns-else-is_math : goal.returns-else-is_math
 returns-else-is_math c =

@@ -5,7 +5,7 @@ use Rattle.tl_tree.specs.declared.row.Row.{Row}
 use Rattle.tl_tree.proofs.seat.seat.Goals as goal
 
 abbrev no_row : Row
-no_row = record { held = Element 0; parent = 0; end = 0; source = record { start = 0; len = 0 } }
+no_row = record { held = Element 0; parent = 0; end = 0 }
 
 pub overflow_sub-row : goal.overflow_sub-row
 overflow_sub-row c = end-fits c.args.rows.now c.loop-number.rows c.loop-number.number _ c.requires.ends c.loop-number-test.true (c.loop-number.invariant.3 c.loop-number.number (omega arith))
@@ -18,7 +18,7 @@ loop-number-preserved c =
     let all = c.loop-number.rows in
     let n = c.loop-number.number in
     let was = get_or all n no_row in
-    let own : Row = record { held = was.held; parent = c.innermost-parent.result; end = length initial - was.end; source = was.source } in
+    let own : Row = record { held = was.held; parent = c.innermost-parent.result; end = length initial - was.end } in
     let fits = end-fits initial all n no_row c.requires.ends test (c.loop-number.invariant.3 n (omega arith)) in
     let inner = inner-front all n c.innermost-parent.result test c.innermost-parent.ensures in
     let next = seat-step initial all n no_row own c.loop-number.invariant.2 c.loop-number.invariant.3 c.loop-number.invariant.4 test refl (omega (arith, fits)) inner in

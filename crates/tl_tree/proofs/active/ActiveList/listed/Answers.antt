@@ -52,3 +52,7 @@ returns-clause-stands c =
     let none : c.loop-left.left ≡ 0 = omega arith in
     sym (c.loop-left.invariant.same
     ∙ (ap (λ (n : ℕ). listed name (seen s (take n xs))) none ∙ ap (listed name) (seen-none s)))
+
+pub returns-then-is_unnamed-clause-stands : goal.returns-then-is_unnamed-clause-stands
+returns-then-is_unnamed-clause-stands c =
+    sym (c.is_unnamed.ensures c.args.store.now c.if-is_unnamed.true c.requires.tallied)

@@ -1,3 +1,4 @@
+use Rattle.tl_tree.proofs.Tallies.{tagged-at}
 use Rattle.std.proofs.Common.{ap, ◌∙◌}
 use Rattle.tl_tree.proofs.ActiveNumbers.{none-before, tag-within}
 use Rattle.tl_tree.proofs.Actives.{entry-at, none-of, relist-none, relist-one}
@@ -24,3 +25,7 @@ returns-clause-active c =
     ap (seen s) c.set.ensures.entries
     ∙ relist-one s c.args.number c.args.new place c.in-Formatting.number c.in-Formatting.tag xs at (none-before c.args.number place xs a.distinct at)
     (entry-at xs place c.index-entry.result.now (Formatting c.in-Formatting.number c.in-Formatting.tag) at.within c.index-entry.ensures c.in-Formatting.is)
+
+pub set-requires-clause-same : goal.set-requires-clause-same
+set-requires-clause-same c =
+    tagged-at c.args.self.now.entries.items c.in-Some.place c.in-Formatting.number c.in-Formatting.tag c.index-entry.result.now c.in-Some.ensures.some.within c.index-entry.ensures c.in-Formatting.is

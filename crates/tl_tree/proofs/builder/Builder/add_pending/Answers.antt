@@ -34,3 +34,7 @@ returns-clause-stands c =
     let b = c.args.self.now in
     let stands = λ (bytes : List ℕ) (span : Span). bytes_of c.add_bytes-text.new.self.store span ≡ bytes in
     IfOk-weaker c.add_bytes-text.result (stands c.deref.result.now) (stands b.pending.items) (λ span is. is ∙ (c.deref.ensures.value ∙ same)) c.add_bytes-text.ensures.stands
+
+pub invariant_of-self : goal.invariant_of-self
+invariant_of-self c =
+    record { known = known-kept c.args.self.now c.add_bytes-text.new.self c.add_bytes-text.ensures.grows c.add_bytes-text.ensures.next }

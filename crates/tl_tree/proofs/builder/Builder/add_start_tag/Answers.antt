@@ -21,3 +21,7 @@ returns-clause-token c =
     let b = c.args.self.now in
     let q = c.add_start_tag.new.self in
     token-kept b q _ c.add_start_tag.ensures.grows
+
+pub returns-clause-tag : goal.returns-clause-tag
+unfolding builder_of
+returns-clause-tag c = c.add_start_tag.ensures.tag

@@ -11,7 +11,7 @@ returns-clause-ok c =
     let q = c.adopt.new.path in
     let list = c.adopt.new.active in
     let own = listed_of b.path.store c.args.own in
-    let known = known-adopted b q list c.adopt.ensures.grows c.adopt.ensures.more c.adopt.ensures.numbered c.adopt.ensures.listed in
+    let known = known-adopted b q list c.adopt.ensures.grows c.adopt.ensures.more c.adopt.ensures.numbered c.adopt.ensures.listed c.adopt.ensures.tallied in
     blocks-adopted c.adopt.result b q list known own c.args.block c.adopt.ensures.grows c.adopt.ensures.ok
 
 pub returns-clause-token : goal.returns-clause-token

@@ -7,7 +7,7 @@ use Rattle.tl_tree.proofs.builder.Builder.clear_to_last_marker.Goals as goal
 pub invariant_of-self : goal.invariant_of-self
 invariant_of-self c =
     let b = c.args.self.now in
-    record { known = known-listed b c.clear_to_last_marker.new.self c.clear_to_last_marker.ensures.number c.clear_to_last_marker.ensures.tag }
+    record { known = known-listed b c.clear_to_last_marker.new.self c.clear_to_last_marker.ensures.number c.clear_to_last_marker.ensures.tag (c.clear_to_last_marker.ensures.tallied b.known.tallied) }
 
 pub returns-clause-ok : goal.returns-clause-ok
 unfolding builder_of

@@ -37,7 +37,7 @@ returns-clause-ok c =
     let more = known-more b q g least in
     let next = c.in_ok-insert_element.ensures.next in
     let number = c.push.ensures.number in
-    let known = known-both b q list g least (omega arith) (c.push.ensures.tag (length q.store.tags.items) more.listed more.own) in
+    let known = known-both b q list g least (omega arith) (c.push.ensures.tag (length q.store.tags.items) more.listed more.own) (c.push.ensures.tallied more.tallied) in
     let placed : Place → Path = λ at. dom.pushed_at at (new_frame b.path.next own at) (path_of b.path) in
     on_ok_weaker c.push.result
     (λ listed.
@@ -48,3 +48,26 @@ returns-clause-ok c =
     ∙ (ap (λ (t : Tag). dom.formatting b.path.next t ∷ active_of q.store b.active) (tag-at-grown s q.store g b.tag b.known.own)
     ∙ ap (λ (entries : List dom.Entry). dom.formatting b.path.next own ∷ entries) (active-grown s q.store g b.active b.known.listed))))
     c.push.ensures.active
+
+pub push-requires-clause-listed : goal.push-requires-clause-listed
+push-requires-clause-listed c =
+    (known-more c.args.self.now c.insert_element.new.self c.insert_element.ensures.grows c.insert_element.ensures.least).listed
+
+pub push-requires-clause-own : goal.push-requires-clause-own
+push-requires-clause-own c =
+    (known-more c.args.self.now c.insert_element.new.self c.insert_element.ensures.grows c.insert_element.ensures.least).own
+
+pub invariant_of-self : goal.invariant_of-self
+invariant_of-self c =
+    record { known = known-more c.args.self.now c.insert_element.new.self c.insert_element.ensures.grows c.insert_element.ensures.least }
+
+pub invariant_of-self-2 : goal.invariant_of-self-2
+invariant_of-self-2 c =
+    let b = c.args.self.now in
+    let q = c.insert_element.new.self in
+    let more = known-more b q c.insert_element.ensures.grows c.insert_element.ensures.least in
+    let next = c.in_ok-insert_element.ensures.next in
+    let number = c.push.ensures.number in
+    record {
+      known = known-both b q c.push.new.self c.insert_element.ensures.grows c.insert_element.ensures.least (omega arith) (c.push.ensures.tag (length q.store.tags.items) more.listed more.own) (c.push.ensures.tallied more.tallied);
+    }

@@ -8,7 +8,7 @@ use Rattle.tl_tree.proofs.builder.Builder.insert_marker.Goals as goal
 pub invariant_of-self : goal.invariant_of-self
 invariant_of-self c =
     let b = c.args.self.now in
-    record { known = known-listed b c.push_marker.new.self c.push_marker.ensures.number c.push_marker.ensures.tag }
+    record { known = known-listed b c.push_marker.new.self c.push_marker.ensures.number c.push_marker.ensures.tag (c.push_marker.ensures.tallied b.path.store b.known.tallied) }
 
 pub returns-clause-ok : goal.returns-clause-ok
 unfolding builder_of

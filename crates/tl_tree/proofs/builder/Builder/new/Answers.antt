@@ -8,7 +8,7 @@ use Rattle.tl_tree.proofs.builder.Builder.new.Goals as goal
 
 pub invariant_of-result : goal.invariant_of-result
 invariant_of-result c =
-    record { known = known-new c.add_doctype.new.self c.new-active.result.greatest_number c.new-active.result.greatest_tag c.in_ok-doctype.doctype c.new-active.ensures.number c.new-active.ensures.tag (c.add_doctype.ensures.next ∙ c.in_ok-path.ensures.next) c.in_ok-doctype.ensures.within }
+    record { known = known-new c.add_doctype.new.self c.new-active.result c.new-active.result.greatest_number c.new-active.result.greatest_tag c.in_ok-doctype.doctype (c.new-active.ensures.tallied c.add_doctype.new.self.store) c.new-active.ensures.number c.new-active.ensures.tag (c.add_doctype.ensures.next ∙ c.in_ok-path.ensures.next) c.in_ok-doctype.ensures.within }
 
 pub returns-clause-start : goal.returns-clause-start
 unfolding builder_of
@@ -31,12 +31,13 @@ returns-clause-start c =
       tokens = 0;
       added = 0;
       excess = 0;
+      starts = 0;
       flags = c.args.flags;
       tag = 0;
       text = record { start = 0; len = 0 };
       doctype = c.in_ok-doctype.doctype;
       hint = 0;
-      known = known-new c.add_doctype.new.self c.new-active.result.greatest_number c.new-active.result.greatest_tag c.in_ok-doctype.doctype c.new-active.ensures.number c.new-active.ensures.tag (c.add_doctype.ensures.next ∙ c.in_ok-path.ensures.next) c.in_ok-doctype.ensures.within;
+      known = known-new c.add_doctype.new.self c.new-active.result c.new-active.result.greatest_number c.new-active.result.greatest_tag c.in_ok-doctype.doctype (c.new-active.ensures.tallied c.add_doctype.new.self.store) c.new-active.ensures.number c.new-active.ensures.tag (c.add_doctype.ensures.next ∙ c.in_ok-path.ensures.next) c.in_ok-doctype.ensures.within;
     } in
     started b (c.add_doctype.ensures.path ∙ c.in_ok-path.ensures.path) (c.new-active.ensures.active c.add_doctype.new.self.store) (c.add_doctype.ensures.next ∙ c.in_ok-path.ensures.next) c.new-templates.ensures.items c.new-pending.ensures.items
 

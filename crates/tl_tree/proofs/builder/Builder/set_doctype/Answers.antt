@@ -13,6 +13,7 @@ invariant_of-self c =
         around = k.around;
         said = k.said;
         typed = c.requires;
+        tallied = k.tallied;
       };
     }
 

@@ -13,6 +13,7 @@ invariant_of-self c =
         around = k.around;
         said = c.requires;
         typed = k.typed;
+        tallied = k.tallied;
       };
     }
 

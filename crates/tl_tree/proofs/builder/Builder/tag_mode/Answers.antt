@@ -21,6 +21,6 @@ returns c =
     let d = builder_of b in
     let name = bytes_of b.path.store c.tag-entry.result.name in
     c.mode_at.ensures
-    ∙ (ap (reset.mode_at d c.args.is_last) (c.group_of.ensures c.bytes.result.now c.of-name.ensures ∙ ap group c.bytes.ensures)
+    ∙ (ap (reset.mode_at d c.args.is_last) (c.group_of.ensures name c.tag-entry.ensures.known)
     ∙ sym (ap (reset.tag_mode d c.args.is_last) (sym c.tag-entry.ensures.stands)
     ∙ ap (λ h. cond h (reset.mode_at d c.args.is_last (group name)) None) (sym c.is_html.ensures ∙ c.if-not-is_html.false)))

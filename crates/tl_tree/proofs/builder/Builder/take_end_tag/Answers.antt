@@ -11,13 +11,23 @@ abbrev name_in : List HtmlToken → List ℕ
 name_in (EndTag name ∷ tokens) = name
 name_in _ = []
 
-pub returns-clause-ok : goal.returns-clause-ok
-returns-clause-ok c =
+pub returns-then-name-clause-ok : goal.returns-then-name-clause-ok
+returns-then-name-clause-ok c =
     let b = builder_of c.args.self.now in
     on_ok_weaker c.take_end.result
     (λ e mode name whole.
     e ∙ ap (λ (own : List ℕ). token_done b (an_end (group own) own))
+    (sym (c.tag_name-name.ensures.part.plain c.if-name.true)
+    ∙ sym (ap name_in (c.tag_name-name.ensures.end_told mode (EndTag name ∷ []) whole tt))))
+    c.take_end.ensures.ok
+
+pub returns-clause-ok : goal.returns-clause-ok
+returns-clause-ok c =
+    let b = builder_of c.args.self.now in
+    on_ok_weaker c.take_end-2.result
+    (λ e mode name whole.
+    e ∙ ap (λ (own : List ℕ). token_done b (an_end (group own) own))
     (c.as_bytes.ensures
     ∙ (c.in_ok-lower.ensures
-    ∙ sym (ap name_in (c.in_ok-parts.ensures.end mode (EndTag name ∷ []) whole tt)))))
-    c.take_end.ensures.ok
+    ∙ sym (ap name_in (c.tag_name-name.ensures.end_told mode (EndTag name ∷ []) whole tt)))))
+    c.take_end-2.ensures.ok

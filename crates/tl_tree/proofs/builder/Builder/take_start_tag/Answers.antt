@@ -1,17 +1,17 @@
 use Rattle.std.proofs.Common.{Bool, ap, ◌∙◌, ◌≡◌}
 use Rattle.std.proofs.lemmas.Result.{on_ok_weaker}
 use Rattle.tl_dom_spec.specs.Builder.{Builder, a_start}
-use Rattle.tl_dom_spec.specs.Dispatcher.{token_done}
 use Rattle.tl_dom_spec.specs.Groups.{Group, group}
 use Rattle.tl_dom_spec.specs.Tags.{Tag}
+use Rattle.tl_tree.specs.Inner.Taking.{token_taken}
 use Rattle.tl_tree.proofs.builder.Builder.take_start_tag.Goals as goal
 
-same-start : (b b' : Builder) (g g' : Group) (t t' : Tag) (closes closes' : Bool) → b ≡ b' → g ≡ g' → t ≡ t' → closes ≡ closes' → token_done b (a_start g t closes) ≡ token_done b' (a_start g' t' closes')
+same-start : (b b' : Builder) (g g' : Group) (t t' : Tag) (closes closes' : Bool) → b ≡ b' → g ≡ g' → t ≡ t' → closes ≡ closes' → token_taken b (a_start g t closes) ≡ token_taken b' (a_start g' t' closes')
 same-start b b' g g' t t' closes closes' is-b is-g is-t is-closes =
-    ap (λ own. token_done own (a_start g t closes)) is-b
-    ∙ (ap (λ own. token_done b' (a_start own t closes)) is-g
-    ∙ (ap (λ own. token_done b' (a_start g' own closes)) is-t
-    ∙ ap (λ own. token_done b' (a_start g' t' own)) is-closes))
+    ap (λ own. token_taken own (a_start g t closes)) is-b
+    ∙ (ap (λ own. token_taken b' (a_start own t closes)) is-g
+    ∙ (ap (λ own. token_taken b' (a_start g' own closes)) is-t
+    ∙ ap (λ own. token_taken b' (a_start g' t' own)) is-closes))
 
 pub returns-clause-ok : goal.returns-clause-ok
 returns-clause-ok c =

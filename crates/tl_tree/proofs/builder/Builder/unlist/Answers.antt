@@ -7,7 +7,7 @@ use Rattle.tl_tree.proofs.builder.Builder.unlist.Goals as goal
 pub invariant_of-self : goal.invariant_of-self
 invariant_of-self c =
     let b = c.args.self.now in
-    record { known = known-listed b c.unlist.new.self c.unlist.ensures.number c.unlist.ensures.tag }
+    record { known = known-listed b c.unlist.new.self c.unlist.ensures.number c.unlist.ensures.tag (c.unlist.ensures.tallied b.known.tallied) }
 
 pub returns-clause-ok : goal.returns-clause-ok
 unfolding builder_of

@@ -1,17 +1,6 @@
-use Rattle.std.proofs.Common.{◌∙◌}
-use Rattle.tl_tree.proofs.Entering.{role-kept}
-use Rattle.tl_tree.proofs.Written.{caught-up, caught-up-none}
+use Rattle.tl_tree.proofs.Written.{caught-up-none}
 use Rattle.tl_tree.proofs.path.FramePath.catch_up.Goals as goal
 
-pub write-requires-clause-role : goal.write-requires-clause-role
-write-requires-clause-role c =
-    role-kept c.add.new.self.store c.args.self.now.frames.items c.add.new.self.frames.items c.args.index c.index-frame.result.now c.in_ok-frame.frame _ (c.add.ensures.frames ∙ c.folded.ensures.frames) c.index-frame.ensures c.requires.index c.in_ok-frame.ensures.tag
-
-pub returns-then-frame-eq0-clause-ok : goal.returns-then-frame-eq0-clause-ok
-returns-then-frame-eq0-clause-ok c =
-    caught-up-none c.args.self.now c.args.index c.index-frame.result.now c.index-frame.ensures c.requires.index c.if-frame-eq0.true
-
-pub returns-clause-ok : goal.returns-clause-ok
-returns-clause-ok c =
-    let p = c.args.self.now in
-    caught-up p c.folded.new.self c.add.new.self c.write.new.self c.args.index c.index-frame.result.now c.in_ok-frame.frame c.in_ok-children.children c.folded.ensures.grows c.add.ensures.grows (c.add.ensures.frames ∙ c.folded.ensures.frames) c.write.ensures.store c.write.ensures.frames c.index-frame.ensures c.requires.index c.in_ok-frame.ensures.within c.in_ok-frame.ensures.stands c.in_ok-frame.ensures.late c.in_ok-children.ensures.stands
+pub returns-then-index-eq0-clause-ok : goal.returns-then-index-eq0-clause-ok
+returns-then-index-eq0-clause-ok c =
+    caught-up-none c.args.self.now c.args.index c.index.result.now c.index.ensures c.requires.index c.if-index-eq0.true

@@ -1,4 +1,4 @@
-use Rattle.std.proofs.Common.{IsTrue, List, is_ok, ◌++◌, arith}
+use Rattle.std.proofs.Common.{IsTrue, List, is_ok, arith, ◌+◌, ◌++◌}
 use Rattle.std.specs.List.{list_all}
 use Rattle.tl_tree.proofs.Entering.{opens-appended}
 use Rattle.tl_tree.proofs.Numbers.{all-append, either}
@@ -6,7 +6,7 @@ use Rattle.tl_tree.specs.Inner.Entered.{entered, entered_of}
 use Rattle.tl_tree.specs.Inner.Framed.{are_distinct, is_before}
 use Rattle.tl_tree.specs.Inner.Frames.{is_frame}
 use Rattle.tl_tree.specs.declared.frame.Frame.{Frame}
-use Rattle.tl_tree.proofs.Placed.{here-none}
+use Rattle.tl_tree.proofs.Placed.{HereFrom, here-appended, here-none}
 use Rattle.tl_tree.proofs.path.FramePath.put_back.Goals as goal
 
 pub invariant_of-self-clause-within : goal.invariant_of-self-clause-within
@@ -38,7 +38,10 @@ invariant_of-self-clause-known c =
 
 pub invariant_of-self-clause-near : goal.invariant_of-self-clause-near
 invariant_of-self-clause-near c =
-    let v = c.extend_from_slice.new.self in
-    let own = v.ok.0 in
-    let small = v.small in
-    here-none c.far_in-self.result v.items (omega (arith, c.far_in-self.ensures))
+    let p = c.args.self.now in
+    let xs = p.frames.items in
+    let own = p.frames.ok.0 in
+    let len = c.len.ensures in
+    let n = c.len.result + c.args.placed in
+    either (λ (ys : List Frame). HereFrom n ys) (is_ok c.extend_from_slice.result) (xs ++ c.args.aside.now) xs c.extend_from_slice.new.self.items c.extend_from_slice.ensures.items
+    (here-appended xs c.args.aside.now c.args.placed n (omega arith) c.requires.near) (here-none n xs (omega arith))

@@ -4,7 +4,7 @@ use Rattle.tl_tree.proofs.Listed.{all-drop}
 use Rattle.tl_tree.proofs.Numbers.{distinct-settled}
 use Rattle.tl_tree.proofs.Outer.{aside-within, settled-outside}
 use Rattle.tl_tree.specs.Inner.Adopted.{is_inside}
-use Rattle.tl_tree.specs.Inner.Framed.{are_distinct, is_before}
+use Rattle.tl_tree.specs.Inner.Framed.{are_distinct, is_before, is_here}
 use Rattle.tl_tree.specs.declared.frame.Frame.{Frame}
 use Rattle.tl_tree.proofs.path.FramePath.settle_outside.Goals as goal
 
@@ -35,3 +35,14 @@ returns-clause-frames c =
     let own = c.settle_to.new.self.frames.ok.0 in
     settled-outside p c.set_aside.new.self c.settle_to.new.self c.put_back.new.self c.set_place.new.self c.args.place c.len-outer.result c.deref.result.now (is_inside c.args.number) c.args.is_fostering c.place_in-target.result
     c.in_ok-aside.ensures.kept c.set_aside.ensures.store (c.deref.ensures.value ∙ c.in_ok-aside.ensures.aside) c.in_ok-settle_to.ensures.ok c.settle_to.ensures.grows c.place_in-target.ensures (omega arith) c.in_ok-put_back.ensures.frames c.put_back.ensures.store c.set_place.ensures.frames
+
+pub put_back-requires-clause-near : goal.put_back-requires-clause-near
+put_back-requires-clause-near c =
+    subst (λ (frames : List Frame). IsTrue (list_all is_here (drop c.placed_behind-placed.result frames))) (sym (c.deref.ensures.value ∙ c.in_ok-aside.ensures.aside)) c.placed_behind-placed.ensures.near
+
+pub put_back-requires-clause-small : goal.put_back-requires-clause-small
+put_back-requires-clause-small c =
+    let within = c.placed_behind-placed.ensures.within in
+    let own = c.args.self.now.frames.ok.0 in
+    let small = c.args.self.now.frames.small in
+    omega arith

@@ -2,6 +2,7 @@ use Rattle.std.proofs.Common.{arith}
 use Rattle.tl_dom_spec.specs.Path.{has_tag}
 use Rattle.tl_dom_spec.specs.Tags.{is_any, is_scope}
 use Rattle.tl_tree.proofs.Skipped.{none-either, none-end, none-further, none-item-bound, none-named, none-nothing, none-special}
+use Rattle.tl_tree.specs.Inner.NameLists.{list_of}
 use Rattle.tl_tree.specs.Inner.Tests.{tag_test_of}
 use Rattle.tl_tree.proofs.path.FramePath.tag_limit.Goals as goal
 
@@ -17,7 +18,7 @@ pub returns-in-ScopeOr-clause-skips : goal.returns-in-ScopeOr-clause-skips
 returns-in-ScopeOr-clause-skips c =
     let p = c.args.self.now in
     let scope = has_tag is_scope in
-    let names = has_tag (is_any c.in-ScopeOr.names.now) in
+    let names = has_tag (is_any (list_of c.in-ScopeOr.names)) in
     let greater = c.max.ensures in
     rw c.in-ScopeOr.is
     (none-either scope names p c.max.result

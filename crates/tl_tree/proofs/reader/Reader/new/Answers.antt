@@ -6,6 +6,8 @@ use Rattle.tl_tree.proofs.ReadOn.{begins}
 use Rattle.tl_tree.specs.Inner.Builders.{builder_of, flags_of, token_of}
 use Rattle.tl_tree.specs.Inner.Reading.{left_of}
 use Rattle.tl_tree.proofs.reader.Reader.new.Goals as goal
+use Rattle.tl_tree.proofs.Sourced.{begun}
+use Rattle.tl_tree.specs.Sources.{page_begin}
 
 pub invariant_of-result : goal.invariant_of-result
 unfolding token_of
@@ -18,4 +20,6 @@ returns c =
     record {
       left = begins (page_start (flags_of c.args.flags)) (builder_of c.in_ok-builder.builder) data_state mode.Data (without_mark page) page c.mark_len.result
           c.in_ok-builder.ensures.start refl c.mark_len.ensures.rest;
+      sources = begun (page_begin (flags_of c.args.flags) page) _ c.mark_len.ensures.bytes refl c.in_ok-builder.ensures.start refl c.new-sources.ensures.items;
+      page = refl;
     }

@@ -1,4 +1,4 @@
-use Rattle.std.proofs.Common.{Ok, Err, OnOk, Result, ap, sym, true, ◌∙◌, ◌≡◌}
+use Rattle.std.proofs.Common.{Err, Ok, OnOk, Result, ap, refl, sym, true, ◌∙◌, ◌≡◌}
 use Rattle.tl_dom_spec.specs.Builder.{Builder, end_of_file}
 use Rattle.tl_dom_spec.specs.Dispatcher.{token_done}
 use Rattle.tl_dom_spec.specs.HtmlTree.{is_little}
@@ -6,6 +6,7 @@ use Rattle.tl_tree.proofs.ReadOn.{whole}
 use Rattle.tl_tree.specs.Inner.Builders.{Said, builder_of, token_of}
 use Rattle.tl_tree.specs.Inner.Reading.{left_of}
 use Rattle.tl_tree.proofs.reader.Reader.read.Goals as goal
+use Rattle.tl_tree.proofs.Sourced.{end-sourced}
 
 on-any : {T E P : Type 0} (r : Result T E) → P → OnOk r P
 on-any (Ok x) p = p
@@ -35,3 +36,10 @@ pub returns-clause-large : goal.returns-clause-large
 returns-clause-large c at is =
     let all = whole c.args.self.now c.read_on.new.self (builder_of c.take_token.new.self) c.in_ok-take_token.ensures.ok c.in_ok-read_on.ensures.end c.in_ok-read_on.ensures.ok in
     ap (λ (d : Builder). is_little d.excess) (sym all) ∙ c.weigh.ensures.large at is
+
+pub returns-clause-sources : goal.returns-clause-sources
+returns-clause-sources c =
+    on-any c.weigh.result
+    (λ begin s.
+    end-sourced c.args.self.now.page.now begin c.read_on.new.self _ _ c.read_on.ensures.page refl
+    (sym (ap (λ (b : Builder). b.starts) c.in_ok-take_token.ensures.ok)) (c.in_ok-read_on.ensures.sources begin s))

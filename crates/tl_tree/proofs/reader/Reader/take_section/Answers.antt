@@ -1,9 +1,10 @@
-use Rattle.std.proofs.Common.{ap, ◌∙◌}
+use Rattle.std.proofs.Common.{ap, refl, ◌∙◌}
 use Rattle.tl_tree.proofs.ReadOn.{section-on}
 use Rattle.tl_tree.specs.Inner.Builders.{Said, builder_of, token_of}
 use Rattle.tl_tree.specs.Inner.Reading.{left_of}
 use Rattle.tl_tree.specs.Inner.Store.{bytes_of}
 use Rattle.tl_tree.proofs.reader.Reader.take_section.Goals as goal
+use Rattle.tl_tree.proofs.Sourced.{section-sourced}
 
 pub invariant_of-self : goal.invariant_of-self
 unfolding token_of
@@ -32,3 +33,11 @@ returns-clause-ok c =
     c.requires.section c.requires.foreign c.requires.mode c.add_bytes.ensures.ok
     (c.in_ok-span.ensures.stands ∙ (c.as_bytes.ensures ∙ c.in_ok-text.ensures))
     c.in_ok-take_run.ensures.ok
+
+pub returns-clause-sources : goal.returns-clause-sources
+returns-clause-sources c begin s =
+    let b1 = c.add_bytes.new.self in
+    section-sourced begin c.args.self.now _ (builder_of b1) c.args.section (bytes_of b1.path.store c.in_ok-span.span)
+    c.requires.section c.requires.foreign c.requires.mode c.add_bytes.ensures.ok
+    (c.in_ok-span.ensures.stands ∙ (c.as_bytes.ensures ∙ c.in_ok-text.ensures))
+    c.in_ok-take_run.ensures.ok refl refl refl refl s

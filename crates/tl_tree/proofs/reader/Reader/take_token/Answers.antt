@@ -1,14 +1,15 @@
-use Rattle.std.proofs.Common.{List, subst, sym, ℕ, ◌∙◌}
+use Rattle.std.proofs.Common.{List, refl, subst, sym, ℕ, ◌∙◌}
 use Rattle.tl_html_tokens.specs.Emits.{AreEmits}
 use Rattle.tl_tree.proofs.ReadOn.{front-on}
 use Rattle.tl_tree.specs.Inner.Builders.{builder_of, token_of}
 use Rattle.tl_tree.specs.Inner.Reading.{left_of}
 use Rattle.tl_tree.specs.Inner.Said.{piece_at}
 use Rattle.tl_tree.proofs.reader.Reader.take_token.Goals as goal
+use Rattle.tl_tree.proofs.Sourced.{front-sourced}
 
-pub invariant_of-self : goal.invariant_of-self
+pub invariant_of-self-in-Break-branch-2 : goal.invariant_of-self-in-Break-branch-2
 unfolding token_of
-invariant_of-self c =
+invariant_of-self-in-Break-branch-2 c =
     let r = c.args.self.now in
     record { within = r.within; same = c.take_front.ensures.page ∙ r.same }
 
@@ -28,3 +29,12 @@ returns-clause-ok c =
     c.in_ok-take_front.ensures.ok emits
     (subst (λ (page : List ℕ). AreEmits r.mode (piece_at page r.at c.args.front.end) c.args.front.kind emits) (sym r.same) told))
     c.mode_behind-self.ensures
+
+pub returns-clause-sources : goal.returns-clause-sources
+returns-clause-sources c begin s =
+    let r = c.args.self.now in
+    front-sourced begin r _ c.args.front c.requires.front c.requires.open
+    (λ emits told.
+    c.in_ok-take_front.ensures.ok emits
+    (subst (λ (page : List ℕ). AreEmits r.mode (piece_at page r.at c.args.front.end) c.args.front.kind emits) (sym r.same) told))
+    c.mode_behind-self.ensures refl refl c.in_ok-keep_source.ensures s

@@ -1,5 +1,6 @@
 use Rattle.std.proofs.Common.{arith, is_ok, length, refl}
 use Rattle.tl_tree.proofs.Grown.{bytes-added}
+use Rattle.tl_tree.proofs.KnownNames.{known-longer}
 use Rattle.tl_tree.proofs.Listed.{all-weaker, appended-at_most, appended-longer}
 use Rattle.tl_tree.proofs.Within.{attribute-more, cells-more, doctype-more, tag-more}
 use Rattle.tl_tree.specs.Inner.Lists.{many_in}
@@ -33,6 +34,11 @@ invariant_of-self-clause-tags_within c =
     let own = many_in s.attributes in
     let longer = appended-longer (is_ok c.extend_from_slice.result) s.side.items c.extend_from_slice.new.self.items c.args.bytes.now c.extend_from_slice.ensures.items in
     all-weaker (is_tag s) (tag_is_within page new own) (λ t h. tag-more page side new own own t longer (λ list. omega arith) h) s.tags.items s.tags_within
+
+pub invariant_of-self-clause-names_known : goal.invariant_of-self-clause-names_known
+invariant_of-self-clause-names_known c =
+    let s = c.args.self.now in
+    known-longer s.page.now s.side.items c.extend_from_slice.new.self.items c.args.bytes.now (many_in s.attributes) (is_ok c.extend_from_slice.result) s.tags.items c.extend_from_slice.ensures.items s.tags_within s.names_known
 
 pub invariant_of-self-clause-doctypes_within : goal.invariant_of-self-clause-doctypes_within
 invariant_of-self-clause-doctypes_within c =

@@ -1,6 +1,7 @@
 use Rattle.std.proofs.Common.{List, ap, refl, ◌∙◌, ◌≡◌, ℕ}
 use Rattle.std.proofs.lemmas.Result.{IfOk-weaker}
 use Rattle.tl_dom_spec.specs.Tags.{Tag}
+use Rattle.tl_names.specs.declared.element_name.TheConstants.ElementName.{OTHER}
 use Rattle.tl_tree.proofs.Grown.{tag-grown}
 use Rattle.tl_tree.specs.Inner.Store.{bytes_of, tag_of}
 use Rattle.tl_tree.specs.declared.entries.TagEntry.{TagEntry}
@@ -11,7 +12,7 @@ use Rattle.tl_tree.proofs.store.Store.add_renamed_tag.Goals as goal
 abbrev renamed : Tag → List ℕ → Tag
 renamed t name = record t { name = name }
 
-renamed-tag : (s : Store) (own : TagEntry) (name : Span) → tag_of s (record own { name = name; known = 0 }) ≡ renamed (tag_of s own) (bytes_of s name)
+renamed-tag : (s : Store) (own : TagEntry) (name : Span) → tag_of s (record own { name = name; known = OTHER }) ≡ renamed (tag_of s own) (bytes_of s name)
 unfolding tag_of
 renamed-tag s own name = refl
 
