@@ -1,0 +1,5 @@
+pub mod Serialized
+pub mod Places
+pub mod ReadAgain
+pub mod Examples
+pub mod Inner

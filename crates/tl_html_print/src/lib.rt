@@ -1,0 +1,14 @@
+//! Trees of pages printed, as the HTML standard serializes them (13.3).
+#![tactic(auto)]
+
+mod attribute;
+mod element;
+mod escape;
+mod examples;
+mod laws;
+mod names;
+mod node;
+mod print;
+mod rows;
+
+pub use print::{write_document, write_inner, write_outer};
