@@ -1,0 +1,23 @@
+use Rattle.std.proofs.Common.{◌≡◌, ◌↔◌, ℕ, Bool, true, subst}
+use Rattle.tl_tree_select.specs.Page.{page_of}
+use Rattle.tl_tree_select.specs.Inner.Columns.{IsPassed}
+use Rattle.tl_tree_select.specs.Inner.Links.{is_at}
+use Rattle.tl_tree_select.proofs.Trees.{tree_up}
+use Rattle.tl_tree_select.proofs.Siblings.{links_lower}
+use Rattle.tl_tree_select.proofs.Relatives.{marks_related}
+use Rattle.tl_tree_select.proofs.columns.relatives.Goals as goal
+
+pub pass_marks-requires : goal.pass_marks-requires
+pass_marks-requires c =
+    links_lower (page_of c.args.tree.now) (tree_up c.args.tree.now) c.args.relation.1 c.args.links.now c.requires.links
+
+pub returns : goal.returns
+returns c e are =
+    let page = page_of c.args.tree.now in
+    let links = c.args.links.now in
+    let marks = c.args.marks.now in
+    let passed = c.in_ok-found.found.items in
+    marks_related page c.args.relation.1 links c.requires.links e marks are c.args.relation.0 c.args.relation.2 passed c.keep_elements.new.marks.items
+    c.in_ok-found.ensures.len c.keep_elements.ensures.len
+    (subst (λ (often : Bool). (n : ℕ) → (is_at passed n ≡ true) ↔ IsPassed links marks c.args.relation.0 often n) c.is_often.ensures c.in_ok-found.ensures.each)
+    c.keep_elements.ensures.kept

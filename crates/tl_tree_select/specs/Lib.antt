@@ -1,0 +1,4 @@
+pub mod Page
+pub mod AnyCase
+pub mod Meaning
+pub mod Inner

@@ -1,0 +1,197 @@
+-- Where a selector of CSS holds in a page: at elements.
+use Rattle.std.specs.Prelude.{◌≡◌, ◌≢◌, ◌↔◌, ◌⊎◌, ◌<◌, ◌≤◌, ◌+ℤ◌, ◌*ℤ◌, ◌&&◌, ◌||◌, ℕ, zero, suc, pos, Bool, true, false, if◌then◌else◌, List, [], ◌∷◌, ◌++◌, codes, length, Option, Some, None, ⊤}
+use Rattle.std.specs.List.{All, AllPairs, Contains, slice_split}
+use Rattle.std.specs.Option.{IsSome, IsSomeAnd, is_some, option_and_then, option_map_or}
+use Rattle.std.specs.Str.{byte, str_to_ascii_lowercase}
+use Rattle.tl_css.specs.declared.selector.Op.{Op}
+use Rattle.tl_css.specs.declared.selector.Op.TheVariants.{Equals, Word, Dashed, Starts, Ends, Inside}
+use Rattle.tl_css.specs.declared.selector.Link.{Link}
+use Rattle.tl_css.specs.declared.selector.Link.TheVariants.{Parent, Sibling, Twin}
+use Rattle.tl_css.specs.declared.selector.Reach.{Reach}
+use Rattle.tl_css.specs.declared.selector.Reach.TheVariants.{Once, Often}
+use Rattle.tl_css.specs.declared.selector.Way.{Way}
+use Rattle.tl_css.specs.declared.selector.Way.TheVariants.{From, To}
+use Rattle.tl_css.specs.declared.selector.Formula.{Formula}
+use Rattle.tl_css.specs.Selector.{Test, Any, Name, Id, Class, Key, Value, Empty, Css, Is, Not, Both, Either, At, Nth}
+use Rattle.tl_css.specs.Bytes.{is_white}
+use Rattle.tl_dom_spec.specs.Tags as dom
+use Rattle.tl_dom_spec.specs.Tags.{is_html}
+use Rattle.tl_names.specs.Elements.{is_among}
+use Rattle.tl_tree.specs.Asked.{attributes_at, children_at, has_no_space, name_of, node_at, parent_at, value_of}
+use Rattle.tl_tree.specs.Rows.{IsInRange, Node, a_comment, a_doctype, a_text, an_element, contents}
+use Rattle.tl_tree_select.specs.Page.{Page}
+use Rattle.tl_tree_select.specs.AnyCase.{any_case_keys}
+
+-- Values
+
+-- bytes as they are, or in lower case
+abbrev pub folded : Bool → List ℕ → List ℕ
+folded folds bytes = if folds then str_to_ascii_lowercase bytes else bytes
+
+-- a value passes an op with another; the empty value begins, ends and is inside of nothing
+abbrev pub Passes : Op → List ℕ → List ℕ → Type 0
+Passes Equals value own = own ≡ value
+Passes Word value own = (value ≢ []) × Contains (slice_split is_white own) value
+Passes Dashed value own = (own ≡ value) ⊎ ((rest : List ℕ) × (own ≡ value ++ byte "-" ∷ rest))
+Passes Starts value own = (value ≢ []) × (rest : List ℕ) × (own ≡ value ++ rest)
+Passes Ends value own = (value ≢ []) × (before : List ℕ) × (own ≡ before ++ value)
+Passes Inside value own =
+    (value ≢ []) × (before : List ℕ) × (behind : List ℕ) × (own ≡ before ++ value ++ behind)
+
+-- the same in any case, where `folds`
+abbrev pub PassesBy : Bool → Op → List ℕ → List ℕ → Type 0
+PassesBy folds op value own = Passes op (folded folds value) (folded folds own)
+
+-- Nodes
+
+abbrev pub is_element : Node → Bool
+is_element node = is_some (name_of node)
+
+-- what counts for nothing where an element is asked whether it is empty: it has no byte of text,
+-- and is no element; the contents of a `template` are no children
+abbrev pub is_nothing : Node → Bool
+is_nothing (an_element tag) = false
+is_nothing contents = true
+is_nothing (a_text []) = true
+is_nothing (a_text (b ∷ bytes)) = false
+is_nothing (a_comment bytes) = true
+is_nothing (a_doctype own) = true
+
+abbrev pub is_html_element : Node → Bool
+is_html_element (an_element tag) = is_html tag
+is_html_element _ = false
+
+-- the namespace and the name of an element
+abbrev pub expanded_name : Node → Option (dom.Namespace × List ℕ)
+expanded_name (an_element tag) = Some (tag.space, tag.name)
+expanded_name _ = None
+
+-- Counting
+
+-- count is a k + b for some k
+abbrev pub IsTerm : Formula → ℕ → Type 0
+IsTerm formula count = (k : ℕ) × (pos count ≡ (formula.a *ℤ pos k) +ℤ formula.b)
+
+-- so many numbers have the property
+pub record IsCount (P : ℕ → Type 0) (count : ℕ) : Type 0 where
+  pub numbers : List ℕ
+  pub rising : AllPairs (λ m n. m < n) numbers
+  pub each : (n : ℕ) → Contains numbers n ↔ P n
+  pub many : length numbers ≡ count
+
+module _ (page : Page) where
+  -- the number of an element
+  abbrev pub IsElement : ℕ → Type 0
+  IsElement n = IsSomeAnd (node_at page.rows n) (λ node. IsSome (name_of node))
+
+  abbrev pub IsNothing : ℕ → Type 0
+  IsNothing n = option_map_or is_nothing (node_at page.rows n) false ≡ true
+
+  abbrev pub is_html_at : ℕ → Bool
+  is_html_at n = option_map_or is_html_element (node_at page.rows n) false
+
+  -- Tests
+
+  -- names are compared in any case: those of HTML elements stand in lower case
+  abbrev pub IsNamed : List ℕ → ℕ → Type 0
+  IsNamed name n =
+      IsSomeAnd (option_and_then name_of (node_at page.rows n))
+      (λ own. str_to_ascii_lowercase own ≡ name)
+
+  -- an element has an attribute of a key without a namespace, and its value passes; keys are
+  -- compared in any case: those of HTML elements stand in lower case
+  abbrev pub HasKey : (List ℕ → Type 0) → List ℕ → ℕ → Type 0
+  HasKey P key n = (own : dom.Attribute) × Contains (attributes_at page.rows n) own
+      × (has_no_space own.space ≡ true) × (str_to_ascii_lowercase own.key ≡ key) × P own.value
+
+  -- the same of the attribute of a key in this case
+  abbrev pub HasValue : (List ℕ → Type 0) → List ℕ → ℕ → Type 0
+  HasValue P key n = IsSomeAnd (value_of key (attributes_at page.rows n)) P
+
+  -- whether the case of a value is folded though no flag says so
+  abbrev pub folds_at : List ℕ → ℕ → Bool
+  folds_at key n = is_html_at n && is_among any_case_keys key
+
+  -- a test passes at an element
+  abbrev pub IsMet : Test → ℕ → Type 0
+  IsMet Any n = ⊤
+  IsMet (Name name) n = IsNamed name n
+  IsMet (Id id) n = HasValue (PassesBy page.is_quirks Equals id) (codes "id") n
+  IsMet (Class class) n = HasValue (PassesBy page.is_quirks Word class) (codes "class") n
+  IsMet (Key key) n = HasKey (λ own. ⊤) key n
+  IsMet (Value key op value folds) n =
+      HasKey (PassesBy (folds || folds_at key n) op value) key n
+  IsMet Empty n = All IsNothing (children_at page.rows n)
+
+  -- Links
+
+  -- both are elements that stand in the same row, or in none
+  pub record AreSiblings (m n : ℕ) : Type 0 where
+    pub first : IsElement m
+    pub second : IsElement n
+    pub parents : parent_at page.rows m ≡ parent_at page.rows n
+
+  -- both are elements of one namespace and name
+  abbrev pub AreNamesakes : ℕ → ℕ → Type 0
+  AreNamesakes m n = (name : dom.Namespace × List ℕ)
+      × (option_and_then expanded_name (node_at page.rows m) ≡ Some name)
+      × (option_and_then expanded_name (node_at page.rows n) ≡ Some name)
+
+  -- m is among the elements that links of this kind lead to from n, and stands before it: what the
+  -- contents of a `template` stand in is no parent of what stands in them
+  abbrev pub IsBefore : Link → ℕ → ℕ → Type 0
+  IsBefore Parent m n = IsElement m × (parent_at page.rows n ≡ Some m)
+  IsBefore Sibling m n = (m < n) × AreSiblings m n
+  IsBefore Twin m n = (m < n) × AreSiblings m n × AreNamesakes m n
+
+  -- m is the last of them: where one link leads
+  abbrev pub IsLink : Link → ℕ → ℕ → Type 0
+  IsLink l m n = IsBefore l m n × ((k : ℕ) → IsBefore l k n → k ≤ m)
+
+  -- k links and one more lead from n to m
+  abbrev pub AreLinks : Link → ℕ → ℕ → ℕ → Type 0
+  AreLinks l zero m n = IsLink l m n
+  AreLinks l (suc k) m n = (j : ℕ) × IsLink l j n × AreLinks l k m j
+
+  abbrev pub IsReached : Link → Reach → ℕ → ℕ → Type 0
+  IsReached l Once m n = IsLink l m n
+  IsReached l Often m n = (k : ℕ) × AreLinks l k m n
+
+  -- m stands there, seen from n
+  abbrev pub StandsThere : Way → Link → Reach → ℕ → ℕ → Type 0
+  StandsThere From l r m n = IsReached l r m n
+  StandsThere To l r m n = IsReached l r n m
+
+  -- m is n, or stands at any distance there
+  abbrev pub IsUpTo : Way → Link → ℕ → ℕ → Type 0
+  IsUpTo y l m n = (m ≡ n) ⊎ StandsThere y l Often m n
+
+  -- Selectors
+
+  -- a selector holds at the row n of the page
+  abbrev pub Holds : Css → ℕ → Type 0
+  Holds (Is test) n = IsElement n × IsMet test n
+  Holds (Not e) n = IsElement n × (Holds e n → ⊥)
+  Holds (Both a b) n = Holds a n × Holds b n
+  Holds (Either a b) n = Holds a n ⊎ Holds b n
+  Holds (At y l r e) n = IsElement n × (m : ℕ) × StandsThere y l r m n × Holds e m
+  Holds (Nth y l formula e) n = Holds e n × (count : ℕ)
+      × IsCount (λ m. IsUpTo y l m n × Holds e m) count × IsTerm formula count
+
+  -- a row stands in the contents of a `template`, at any depth
+  abbrev pub IsInContents : ℕ → Type 0
+  IsInContents n = (m : ℕ) × (node_at page.rows m ≡ Some contents) × IsInRange page.rows m n
+
+  -- a selector holds at an element of the document
+  abbrev pub IsFound : Css → ℕ → Type 0
+  IsFound e n = Holds e n × (IsInContents n → ⊥)
+
+  -- the numbers of the elements of the document where a selector holds: each once, rising
+  pub record AreFound (e : Css) (ns : List ℕ) : Type 0 where
+    pub rising : AllPairs (λ m n. m < n) ns
+    pub each : (n : ℕ) → Contains ns n ↔ IsFound e n
+
+  -- the first element of the document where a selector holds
+  pub record IsFirst (e : Css) (n : ℕ) : Type 0 where
+    pub found : IsFound e n
+    pub first : (m : ℕ) → IsFound e m → n ≤ m

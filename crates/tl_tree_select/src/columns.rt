@@ -1,0 +1,211 @@
+//! Marks of the rows where selectors hold.
+ghost use Rattle.std.specs.Prelude.{◌≡◌, ◌↔◌, ◌<◌, ◌^◌, ℕ, IfOk, true, length, ◌&&◌, ◌||◌};
+ghost use Rattle.tl_css.specs.Selector.{At, Both, Css, Is, Not, Nth};
+ghost use Rattle.tl_css.specs.View.{test as test_of};
+ghost use Rattle.tl_tree_select.specs.Meaning.{Holds, IsCount, IsTerm};
+ghost use Rattle.tl_tree_select.specs.Inner.Columns.{AreMarks, IsCounted, IsPassed, is_often};
+ghost use Rattle.tl_tree_select.specs.Inner.Kin.{AreLinksOf, is_element_at};
+ghost use Rattle.tl_tree_select.specs.Inner.Links.{AreLower, count_at, is_at};
+ghost use Rattle.tl_tree_select.specs.Page.{page_of};
+
+use crate::element::is_element_at;
+use crate::links::{counts_ahead, counts_behind, is_marked, sources, targets};
+use crate::term::is_term;
+use crate::test::is_met_at;
+use std::alloc::{AllocError, Global};
+use tl_css::selector::{Formula, Link, Reach, Test, Way};
+use tl_tree::Tree;
+
+/// The marks of a test.
+pub fn test_marks(alloc: Global, tree: &Tree<'_>, test: &Test) -> Result<Vec<bool>, AllocError>
+    ensures { IfOk result (λ marks. AreMarks (page_of tree.now)
+        (Is (test_of test.now)) marks.items) }
+{
+    let mut marks = Vec::with_capacity(alloc, tree.len())?;
+    for number in 0..tree.len() {
+        let mark = is_met_at(alloc, tree, number, test)?;
+        marks.push(mark)?;
+    }
+    Ok(marks)
+}
+
+// Whether a number is marked, and a test passes there.
+fn is_met_among(
+    alloc: Global,
+    tree: &Tree<'_>,
+    among: &[bool],
+    number: usize,
+    test: &Test,
+) -> Result<bool, AllocError>
+    ensures { IfOk result (λ met. (met ≡ true) ↔ ((is_at among.now number ≡ true)
+        × Holds (page_of tree.now) (Is (test_of test.now)) number)) }
+{
+    if !is_marked(among, number) {
+        return Ok(false);
+    }
+    is_met_at(alloc, tree, number, test)
+}
+
+/// The marks of a test among those that are marked.
+pub fn test_marks_among(
+    alloc: Global,
+    tree: &Tree<'_>,
+    among: &[bool],
+    test: &Test,
+) -> Result<Vec<bool>, AllocError>
+    ensures { (e : Css) → AreMarks (page_of tree.now) e among.now
+        → IfOk result (λ marks. AreMarks (page_of tree.now)
+        (Both e (Is (test_of test.now))) marks.items) }
+{
+    let mut marks = Vec::with_capacity(alloc, tree.len())?;
+    for number in 0..tree.len() {
+        let mark = is_met_among(alloc, tree, among, number, test)?;
+        marks.push(mark)?;
+    }
+    Ok(marks)
+}
+
+/// The marks of the elements that have none.
+pub fn unmarked_elements(
+    alloc: Global,
+    tree: &Tree<'_>,
+    marks: &[bool],
+) -> Result<Vec<bool>, AllocError>
+    ensures { (e : Css) → AreMarks (page_of tree.now) e marks.now
+        → IfOk result (λ found. AreMarks (page_of tree.now) (Not e) found.items) }
+{
+    let mut found = Vec::with_capacity(alloc, tree.len())?;
+    for number in 0..tree.len() {
+        found.push(is_element_at(tree, number) && !is_marked(marks, number))?;
+    }
+    Ok(found)
+}
+
+/// Takes the mark from each row that has none among the others.
+pub fn meet(marks: &mut Vec<bool>, others: &[bool])
+    ensures len { length marks.new.items ≡ length marks.old.items }
+    ensures both { (n : ℕ) → is_at marks.new.items n
+        ≡ (is_at marks.old.items n && is_at others.now n) }
+{
+    for (number, mark) in marks.iter_mut().enumerate() {
+        *mark = *mark && is_marked(others, number);
+    }
+}
+
+/// Adds the marks of the others, as far as there are marks.
+pub fn unite(marks: &mut Vec<bool>, others: &[bool])
+    ensures len { length marks.new.items ≡ length marks.old.items }
+    ensures either { (n : ℕ) → n < length marks.old.items → is_at marks.new.items n
+        ≡ (is_at marks.old.items n || is_at others.now n) }
+{
+    for (number, mark) in marks.iter_mut().enumerate() {
+        *mark = *mark || is_marked(others, number);
+    }
+}
+
+// Takes the mark from each row that is no element.
+fn keep_elements(marks: &mut Vec<bool>, tree: &Tree<'_>)
+    ensures len { length marks.new.items ≡ length marks.old.items }
+    ensures kept { (n : ℕ) → is_at marks.new.items n
+        ≡ (is_at marks.old.items n && is_element_at (page_of tree.now) n) }
+{
+    for (number, mark) in marks.iter_mut().enumerate() {
+        *mark = *mark && is_element_at(tree, number);
+    }
+}
+
+// The marks that links pass on, in this way.
+fn pass_marks(
+    alloc: Global,
+    links: &[u32],
+    marks: &[bool],
+    way: Way,
+    often: bool,
+) -> Result<Vec<bool>, AllocError>
+    requires { AreLower links.now }
+    ensures len { IfOk result (λ found. length found.items ≡ length links.now) }
+    ensures each { IfOk result (λ found. (n : ℕ)
+        → (is_at found.items n ≡ true) ↔ IsPassed links.now marks.now way often n) }
+{
+    match way {
+        Way::From => sources(alloc, links, marks, often),
+        Way::To => targets(alloc, links, marks, often),
+    }
+}
+
+fn is_often(reach: Reach) -> bool
+    ensures { result ≡ is_often reach }
+{
+    matches!(reach, Reach::Often)
+}
+
+/// The marks of the elements that are related to a marked one.
+pub fn relatives(
+    alloc: Global,
+    tree: &Tree<'_>,
+    links: &[u32],
+    marks: &[bool],
+    relation: (Way, Link, Reach),
+) -> Result<Vec<bool>, AllocError>
+    requires links { AreLinksOf (page_of tree.now) relation.1 links.now }
+    ensures { (e : Css) → AreMarks (page_of tree.now) e marks.now → IfOk result (λ found.
+        AreMarks (page_of tree.now) (At relation.0 relation.1 relation.2 e) found.items) }
+{
+    let (way, _, reach) = relation;
+    let mut found = pass_marks(alloc, links, marks, way, is_often(reach))?;
+    keep_elements(&mut found, tree);
+    Ok(found)
+}
+
+// How many marks there are in this way from each number, with itself.
+fn counts(alloc: Global, links: &[u32], marks: &[bool], way: Way) -> Result<Vec<u32>, AllocError>
+    requires lower { AreLower links.now }
+    requires numbered { length links.now < 2 ^ 32 }
+    ensures len { IfOk result (λ counts. length counts.items ≡ length links.now) }
+    ensures each { IfOk result (λ counts. (n : ℕ) → n < length links.now
+        → IsCount (IsCounted links.now marks.now way n) (count_at counts.items n)) }
+{
+    match way {
+        Way::From => counts_ahead(alloc, links, marks),
+        Way::To => counts_behind(alloc, links, marks),
+    }
+}
+
+fn count_at(counts: &[u32], number: usize) -> u32
+    ensures { result ≡ count_at counts.now number }
+{
+    if number < counts.len() {
+        counts[number]
+    } else {
+        0
+    }
+}
+
+// Whether a number is marked, and its count is of a formula.
+fn is_marked_term(marks: &[bool], counts: &[u32], formula: Formula, number: usize) -> bool
+    ensures { (result ≡ true) ↔ ((is_at marks.now number ≡ true)
+        × IsTerm formula (count_at counts.now number)) }
+{
+    is_marked(marks, number) && is_term(formula, count_at(counts, number))
+}
+
+/// The marks of the elements whose counts are of a formula.
+pub fn terms(
+    alloc: Global,
+    tree: &Tree<'_>,
+    links: &[u32],
+    marks: &[bool],
+    sequence: (Way, Link, Formula),
+) -> Result<Vec<bool>, AllocError>
+    requires links { AreLinksOf (page_of tree.now) sequence.1 links.now }
+    ensures { (e : Css) → AreMarks (page_of tree.now) e marks.now → IfOk result (λ found.
+        AreMarks (page_of tree.now) (Nth sequence.0 sequence.1 sequence.2 e) found.items) }
+{
+    let (way, _, formula) = sequence;
+    let counts = counts(alloc, links, marks, way)?;
+    let mut found = Vec::with_capacity(alloc, tree.len())?;
+    for number in 0..tree.len() {
+        found.push(is_marked_term(marks, &counts, formula, number))?;
+    }
+    Ok(found)
+}
