@@ -37,6 +37,8 @@ mod raw_texts;
 #[cfg(test)]
 mod references;
 #[cfg(test)]
+mod selected;
+#[cfg(test)]
 mod sources;
 #[cfg(test)]
 mod splices;
@@ -46,6 +48,8 @@ mod tag_edits;
 mod tag_parts;
 #[cfg(test)]
 mod tokens;
+#[cfg(test)]
+mod tree_sources;
 #[cfg(test)]
 mod trees;
 #[cfg(test)]

@@ -1,0 +1,119 @@
+//! Pages, selectors, and the nodes of the trees where these hold.
+use crate::trees::STANDARD;
+use std::alloc::Global;
+use tl_css::Selector;
+use tl_tree::Tree;
+
+// A page, a selector, and the numbers of the elements where it holds.
+#[rattlefmt::skip]
+static ROWS: [(&[u8], &str, &[usize]); 34] = [
+    (b"<p>a<p>b", "p", &[3, 5]),
+    (b"<P>a", "P", &[3]),
+    (b"<p>a<p>b", "body > *", &[3, 5]),
+    (b"<p>a<p>b", "p + p", &[5]),
+    (b"<p>a<p>b", "p ~ p, html", &[0, 5]),
+    (b"<p>a<p>b", "html p", &[3, 5]),
+    (b"<p>a<p>b", "body:has(> p + p)", &[2]),
+    (b"<p>a<p>b", ":not(p)", &[0, 1, 2]),
+    (b"<p>a<p>b", ":nth-child(2n)", &[2, 5]),
+    (b"<p>a<i></i><p>b", "p:nth-last-of-type(1)", &[6]),
+    // (what stands in no row are siblings, and the root has no other)
+    (b"<!DOCTYPE html><!--a-->", ":root", &[2]),
+    (b"<!DOCTYPE html>", "html:only-child", &[1]),
+    (b"<!DOCTYPE html>", "html + *", &[]),
+    // (comments don't count, and a text with a byte does)
+    (b"<p><!--a--></p><i> </i>", "body > :empty", &[3]),
+    (b"<template>a</template>", "template:empty", &[2]),
+    // (a child may end behind others that are below it)
+    (b"<div><p>a</div><b>c</b>", "b:last-child", &[6]),
+    (b"<div><p>a</div><b>c</b>", "div > :last-child", &[4]),
+    // (the case of a class counts with a doctype)
+    (b"<!DOCTYPE html><p class='A b' id=C>", ".a", &[]),
+    (b"<!DOCTYPE html><p class='A b' id=C>", ".A.b#C", &[4]),
+    (b"<p class='A b' id=C>", ".a.B#c", &[3]),
+    (b"<!DOCTYPE html><p class=ab>", ".a", &[]),
+    // (names and keys of `svg` stand in their own case)
+    (b"<svg viewbox=a><lineargradient>", "linearGradient", &[4]),
+    (b"<svg viewbox=a><lineargradient>", "[VIEWBOX]", &[3]),
+    (b"<svg xlink:href=a>", "[href], [xlink\\:href]", &[]),
+    (b"<p xlink:href=a>", "[xlink\\:href]", &[3]),
+    // (values of some keys are compared in any case at elements of HTML)
+    (b"<input type=TEXT><svg type=TEXT>", "[type=text]", &[3]),
+    (b"<input name=TEXT>", "[name=text]", &[]),
+    (b"<input name=TEXT>", "[name=text i]", &[3]),
+    (b"<p a='x y' lang=en-US>", "[a~=y][a^=x][lang|=EN]", &[3]),
+    // (what stands in the contents of a template is not of the document)
+    (b"<template><p>a<p>b</template><p>c", "p", &[9]),
+    (b"<template><template><p></template><i></template><b>", "p, i, b", &[9]),
+    (b"<div><template><p></template></div>", "div:has(p), template p", &[]),
+    // (twins are of one namespace)
+    (b"<a></a><svg><a></svg><a>", "a:first-of-type", &[3, 5]),
+    (b"", "body, head", &[1, 2]),
+];
+
+// A page, a selector, a number, and whether it holds there.
+#[rattlefmt::skip]
+static ASKED: [(&[u8], &str, usize, bool); 5] = [
+    (b"<p>a<p>b", "p", 5, true),
+    (b"<p>a<p>b", "p:first-child", 5, false),
+    (b"<p>a<p>b", "*", 4, false),
+    (b"<p>a<p>b", "p", 9, false),
+    (b"<template><p>a<p>b</template>", "p + p", 6, true),
+];
+
+fn are_found(alloc: Global, page: &[u8], selector: &Selector, numbers: &[usize]) -> bool {
+    let Ok(tree) = Tree::read(alloc, page, STANDARD) else {
+        return false;
+    };
+    match tl_tree_select::select(alloc, &tree, selector) {
+        Ok(found) => found.as_slice() == numbers,
+        Err(_) => false,
+    }
+}
+
+fn is_first(alloc: Global, page: &[u8], selector: &Selector, number: Option<usize>) -> bool {
+    let Ok(tree) = Tree::read(alloc, page, STANDARD) else {
+        return false;
+    };
+    match tl_tree_select::first(alloc, &tree, selector) {
+        Ok(found) => found == number,
+        Err(_) => false,
+    }
+}
+
+fn is_selected(alloc: Global, page: &[u8], text: &str, numbers: &[usize]) -> bool {
+    match tl_css::parse(alloc, text) {
+        Ok(selector) => {
+            are_found(alloc, page, &selector, numbers)
+                && is_first(alloc, page, &selector, numbers.first().copied())
+        }
+        Err(_) => false,
+    }
+}
+
+fn is_answered(alloc: Global, page: &[u8], text: &str, number: usize, holds: bool) -> bool {
+    let Ok(selector) = tl_css::parse(alloc, text) else {
+        return false;
+    };
+    let Ok(tree) = Tree::read(alloc, page, STANDARD) else {
+        return false;
+    };
+    match tl_tree_select::matches(alloc, &tree, number, &selector) {
+        Ok(found) => found == holds,
+        Err(_) => false,
+    }
+}
+
+#[test]
+fn selectors_are_found(rt: HostRuntime) {
+    for (page, selector, numbers) in &ROWS {
+        assert!(rt; is_selected(rt.alloc(), page, selector, numbers));
+    }
+}
+
+#[test]
+fn nodes_are_matched(rt: HostRuntime) {
+    for (page, selector, number, holds) in &ASKED {
+        assert!(rt; is_answered(rt.alloc(), page, selector, *number, *holds));
+    }
+}
