@@ -6,6 +6,7 @@ use std::alloc::Global;
 use tl_encoding::{Encoding, decode};
 use tl_html::{Mode, normalize, normalize_bytes, normalize_with_sources};
 use tl_html_parts::{characters, comment, tag_parts};
+use tl_html_print::write_document;
 use tl_html_write::{coded_name, lower_name, uncoded_name};
 use tl_text::{
     escape_text, escape_value, unescape_text, unescape_text_str, unescape_value, unescape_value_str,
@@ -33,6 +34,7 @@ enum FormCall {
     Tokens,
     Tree,
     Fragment,
+    Print,
     Decode(Encoding),
 }
 
@@ -41,7 +43,7 @@ enum FormCall {
 type Row = (&'static str, FormCall, &'static [u8], &'static [u8]);
 
 #[rattlefmt::skip]
-static ROWS: [Row; 27] = [
+static ROWS: [Row; 28] = [
     ("escape_text", FormCall::EscapeText, b"a<b&c", b"a&lt;b&amp;c"),
     ("escape_value", FormCall::EscapeValue, b"a\"b", b"a&quot;b"),
     ("unescape_text", FormCall::UnescapeText, b"a&lt;b", b"a<b"),
@@ -67,6 +69,7 @@ static ROWS: [Row; 27] = [
     ("Tree::read", FormCall::Tree, b"<p>a", b"a"),
     ("Tree::read, all kinds of nodes", FormCall::Tree, b"<!DOCTYPE html PUBLIC 'x'><!--a\r--><body class=k><table>a&lt;<tr><td><b>b<p>c</b>d<svg viewbox=x><![CDATA[e]]></svg></table><template><td></template><body id=l>f", b"f"),
     ("Tree::read_fragment, a template with an attribute", FormCall::Fragment, b"<td>a&lt;", b"a<"),
+    ("write_document", FormCall::Print, b"<!DOCTYPE html><p a='<&\"'>b &nbsp;<br><script>c<d", b"<!DOCTYPE html><html><head></head><body><p a=\"&lt;&amp;&quot;\">b &nbsp;<br><script>c<d</script></p></body></html>"),
     ("decode, UTF-8", FormCall::Decode(Encoding::Utf8), b"caf\xC3\xA9", b"caf\xC3\xA9"),
     ("decode, windows-1252", FormCall::Decode(Encoding::Windows1252), b"caf\xE9 \x80", b"caf\xC3\xA9 \xE2\x82\xAC"),
 ];
@@ -104,8 +107,16 @@ fn made(alloc: Global, call: FormCall, bytes: &[u8]) -> Result<Vec<u8>, Stop> {
         FormCall::UncodedName => Ok(uncoded_name(alloc, bytes)?),
         FormCall::NormalizeBytes => Ok(normalize_bytes(alloc, bytes)?),
         FormCall::NormalizeWithSources => Ok(normalize_with_sources(alloc, bytes)?.bytes),
+        FormCall::Print => print(alloc, bytes),
         _ => made_of_text(alloc, call, str::from_utf8(bytes).unwrap_or("")),
     }
+}
+
+fn print(alloc: Global, page: &[u8]) -> Result<Vec<u8>, Stop> {
+    let tree = Tree::read(alloc, page, FLAGS)?;
+    let mut out = Vec::new(alloc);
+    write_document(&tree, FLAGS.is_scripting, &mut out)?;
+    Ok(out)
 }
 
 fn made_of_text(alloc: Global, call: FormCall, text: &str) -> Result<Vec<u8>, Stop> {

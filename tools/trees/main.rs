@@ -7,20 +7,28 @@
 //! | `scripting` | that scripting is on |
 //! | `without-search` | that `search` isn't counted as a special element |
 //! | `fragment CONTEXT` | that each is a fragment, and its context element: the name of an HTML element, or `svg NAME` or `math NAME` as one word |
-//! | `time` | that one page is on standard input, which is read alone: what is written is how many nodes it has, or `refused`, and how long the reading and the drop took, in microseconds |
+//! | `print` | that prints are written in the place of trees (`prints`) |
+//! | `select SELECTOR` | that the elements are asked for where the selector holds: in the place of a tree stands a line with their numbers among the elements of the document, from 0 |
+//! | `time` | that one page is on standard input, which is read alone: what is written is how many nodes it has, or `refused`, and how long the reading and the drop took, in microseconds; with `print` before it how many bytes the document's print has, and how long the print took |
 //!
-//! The status is 1 where a word is not understood, 3 where memory runs out, and 4 where reading or
+//! The status is 1 where a word or the selector is not understood, 3 where memory runs out, and 4 where reading or
 //! writing fails.
 #![tactic(auto)]
 
 mod lines;
+mod numbers;
+mod prints;
 
 use lines::{NoRoom, put_tree};
+use numbers::put_numbers;
+use prints::put_prints;
 use std::alloc::Global;
 use std::process::ExitCode;
 use std::io::{Read, Write};
 use std::time::Instant;
 use std::{env, io, mem};
+use tl_css::{Selector, SelectorError};
+use tl_html_print::write_document;
 use tl_tree::{Context, Flags, Namespace, ReadError, Tree};
 
 // What stands between two pages.
@@ -40,6 +48,15 @@ impl From<NoRoom> for Failed {
     }
 }
 
+impl From<SelectorError> for Failed {
+    fn from(error: SelectorError) -> Self {
+        match error {
+            SelectorError::OutOfMemory => Failed::NoRoom,
+            SelectorError::Text { .. } => Failed::NotUnderstood,
+        }
+    }
+}
+
 impl From<io::Error> for Failed {
     fn from(_: io::Error) -> Self {
         Failed::Io
@@ -50,9 +67,12 @@ impl From<io::Error> for Failed {
 #[derive(Drop)]
 struct Asked {
     flags: Flags,
+    is_printed: bool,
     is_timed: bool,
     /// The context element of fragments.
     context: Option<String>,
+    /// Whose elements are asked for.
+    selector: Option<Selector>,
 }
 
 fn main(rt: HostRuntime) -> ExitCode {
@@ -66,6 +86,9 @@ fn run(rt: &HostRuntime) -> Result<(), Failed> {
     let asked = asked(rt)?;
     let mut pages = Vec::new(rt.alloc());
     rt.stdin().read_to_end(&mut pages)?;
+    if asked.is_timed && asked.is_printed {
+        return time_print(rt, pages.as_slice(), asked.flags);
+    }
     if asked.is_timed {
         return time(rt, pages.as_slice(), asked.flags);
     }
@@ -82,19 +105,28 @@ fn asked(rt: &HostRuntime) -> Result<Asked, Failed> {
             is_scripting: false,
             counts_search: true,
         },
+        is_printed: false,
         is_timed: false,
         context: None,
+        selector: None,
     };
     let mut words = env::args(rt)?.skip(1);
     while let Some(word) = words.next() {
         match word.as_str() {
             "scripting" => asked.flags.is_scripting = true,
             "without-search" => asked.flags.counts_search = false,
+            "print" => asked.is_printed = true,
             "time" => asked.is_timed = true,
             "fragment" => match words.next() {
                 Some(context) => asked.context = Some(context),
                 None => return Err(Failed::NotUnderstood),
             },
+            "select" => {
+                let Some(text) = words.next() else {
+                    return Err(Failed::NotUnderstood);
+                };
+                asked.selector = Some(tl_css::parse(rt.alloc(), text.as_str())?);
+            }
             _ => return Err(Failed::NotUnderstood),
         }
     }
@@ -141,17 +173,44 @@ fn read<'p>(alloc: Global, page: &'p [u8], asked: &Asked) -> Result<Tree<'p>, Re
     }
 }
 
-// The trees of pages, each with the separator after it.
+// Prints the document of a page, and says how long that took.
+fn time_print(rt: &HostRuntime, page: &[u8], flags: Flags) -> Result<(), Failed> {
+    let Ok(tree) = Tree::read(rt.alloc(), page, flags) else {
+        return Ok(println!(rt; "refused 0")?);
+    };
+    let mut out = Vec::new(rt.alloc());
+    let start = Instant::now(rt)?;
+    let printed = write_document(&tree, flags.is_scripting, &mut out);
+    let taken = start.elapsed(rt)?.as_micros();
+    printed.map_err(NoRoom::from)?;
+    println!(rt; "{} {}", out.len(), taken)?;
+    Ok(())
+}
+
+// What is asked for of each page, with the separator after it.
 fn trees_of(alloc: Global, pages: &[u8], asked: &Asked) -> Result<Vec<u8>, NoRoom> {
     let mut out = Vec::new(alloc);
     for page in pages.split(|byte| *byte == SEPARATOR) {
         match read(alloc, page, asked) {
-            Ok(tree) => put_tree(alloc, &mut out, &tree)?,
+            Ok(tree) => put_asked(alloc, &mut out, &tree, asked)?,
             Err(error) => put_error(alloc, &mut out, error)?,
         }
         out.push(SEPARATOR)?;
     }
     Ok(out)
+}
+
+fn put_asked(
+    alloc: Global,
+    out: &mut Vec<u8>,
+    tree: &Tree<'_>,
+    asked: &Asked,
+) -> Result<(), NoRoom> {
+    match &asked.selector {
+        Some(selector) => put_numbers(alloc, out, tree, selector),
+        None if asked.is_printed => put_prints(out, tree, asked.flags.is_scripting),
+        None => put_tree(alloc, out, tree),
+    }
 }
 
 fn put_error(alloc: Global, out: &mut Vec<u8>, error: ReadError) -> Result<(), NoRoom> {
