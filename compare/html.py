@@ -5,6 +5,8 @@
     ./x compare html --form --trees FOLDER [--show N] [--program FILE]
     ./x compare html --trees FOLDER [--runs N] [--seed N]
     ./x compare html --code [--chromium] [--trees FOLDER] [--runs N] [--seed N] [--page FILE..] [--program FILE]
+    ./x compare html --prints [--chromium] [--runs N] [--seed N] [--program FILE]
+    ./x compare html --select [--runs N] [--seed N] [--program FILE]
     ./x compare html --clauses [--show N]
     ./x compare html --row TEXT
     ./x compare html --tree TEXT [--inside NAME] [--scripting]
@@ -25,7 +27,9 @@ that was written from the standard alone (tree_model.py) are compared with the t
 one another on made-up ones. Tests that are older than a rule are named with it. With --chromium both are compared with Chromium on
 made-up pages. With --code the trees of `crates/tl_tree` are compared with the model on made-up pages and fragments and on files, and with the tests
 in the folder, or with --chromium with Chromium on made-up pages: those that the program of tools/trees writes, built unproved, unless
---program names one. With --clauses the worked rows of that crate are
+--program names one. With --prints what `crates/tl_html_print` prints of made-up pages, and of each node of these, is compared with a port
+of 13.3 over the model, or with Chromium. With --select where `crates/tl_tree_select` finds made-up selectors in made-up pages is compared with
+Chromium, of so many pairs. With --clauses the worked rows of that crate are
 computed in the same way, and for each clause of its definitions rows are named, --show N of them (3), that would be others without
 it; NO ROW stands where none would. With --tree it writes the trees of a text as these rows have them.
 
@@ -171,6 +175,8 @@ def main(parser, words):
     parser.add_argument("--form", action="store_true")
     parser.add_argument("--trees", metavar="FOLDER")
     parser.add_argument("--code", action="store_true")
+    parser.add_argument("--select", action="store_true")
+    parser.add_argument("--prints", action="store_true")
     parser.add_argument("--chromium", action="store_true")
     parser.add_argument("--clauses", action="store_true")
     parser.add_argument("--tree", metavar="TEXT")
@@ -197,11 +203,15 @@ def main(parser, words):
         from html5lib._tokenizer import HTMLTokenizer
         from html5lib.constants import tokenTypes
 
-        from . import tree_program, tree_tests
+        from . import tree_program, tree_selectors, tree_tests
     except ImportError:
         print("compare html: html5lib isn't installed", file=sys.stderr)
         return 3
     warnings.simplefilter("ignore")
+    if words.select:
+        return 1 if tree_selectors.compared(words) else 0
+    if words.prints:
+        return 1 if tree_program.compared_prints(words, PIECES) else 0
     if words.code:
         return 1 if tree_program.compared(words, PIECES, made, pages_of(words.page)) else 0
     if words.trees is not None or words.chromium:

@@ -762,14 +762,14 @@ def white_space_in_body(b, token):
 @IN_BODY.on("start", "html")
 def html_again(b, token):
     if not b.has_template():
-        b.open[0].attributes = {**token.attributes, **b.open[0].attributes}
+        b.open[0].attributes = {**b.open[0].attributes, **token.attributes, **b.open[0].attributes}
 
 
 @IN_BODY.on("start", "body")
 def body_again(b, token):
     if len(b.open) > 1 and b.open[1].is_html("body") and not b.has_template():
         b.is_frameset_ok = False
-        b.open[1].attributes = {**token.attributes, **b.open[1].attributes}
+        b.open[1].attributes = {**b.open[1].attributes, **token.attributes, **b.open[1].attributes}
 
 
 @IN_BODY.on("start", "frameset")

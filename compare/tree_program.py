@@ -2,7 +2,9 @@
 where that is asked for, Chromium.
 
 The pages are those of the tests, those of files, and made-up ones: tags in any order with pieces of markup that are hard to read put in,
-and what ./x compare html makes of such pieces and of cuts of the files. Three batches of ten are read as fragments, one of ten are cuts of made-up pages.
+and what ./x compare html makes of such pieces and of cuts of the files. Three batches of ten are read as fragments, one of ten are cuts of
+made-up pages. The prints of `crates/tl_html_print` of made-up pages are compared with a port of the algorithm (serializer.py) over the model,
+and with Chromium.
 """
 import concurrent.futures
 import functools
@@ -13,7 +15,7 @@ from tools.running import must
 from tools.unproved import helper_build
 from tools.workspace import Stop
 
-from . import tree_model, tree_tests
+from . import serializer, tree_model, tree_tests
 from .chromium import all_answers, chromium, version
 from .tree_definition import with_room
 
@@ -25,15 +27,33 @@ MARK = "\ufeff"
 BATCH = 500
 # So many pages that differ are shown.
 SHOWN = 20
+# What stands between two prints of a page.
+PRINT_SEPARATOR = "\x1f"
+# What is printed otherwise than it is read.
+PRINTED = [
+    "\u00a0", "&nbsp;", "&#160;", "\u00a9", "&lt;", "&gt;", "&amp;", "&quot;", '"', " a='<\">'", ' b="&lt;&amp;&nbsp;&quot;"', " c=\u00a0", "<br>", "</br>",
+    "<img src=a>", "<input>", "<svg xlink:href=a xmlns=b xmlns:xlink=c xml:lang=d xml:x=e>", "<svg><image>", "<template>", "<script>", "<style>", "<noscript>",
+    "<xmp>", "<iframe>", "<noembed>", "<noframes>", "<title>", "<textarea>", "<pre>\n", "<keygen>", "<param>", "<frame>", "<col>",
+]  # fmt: skip
+
+
+def written(program, pages, *words):
+    """What the program writes of some pages, by a run of it with some words."""
+    out = must([program, *words], "it writes no trees", given=SEPARATOR.join(pages).encode(), limit=600).out.decode(errors="replace")
+    found = out.split(SEPARATOR)
+    if len(found) != len(pages) + 1:
+        raise Stop(f"{len(pages)} pages, and {len(found) - 1} trees")
+    return found[:-1]
 
 
 def trees(program, pages, *words):
     """The trees of some pages, as the standard's tests write them down, by a run of the program with some words."""
-    written = must([program, *words], "it writes no trees", given=SEPARATOR.join(pages).encode(), limit=600).out.decode(errors="replace")
-    found = [it.removesuffix("\n") for it in written.split(SEPARATOR)]
-    if len(found) != len(pages) + 1:
-        raise Stop(f"{len(pages)} pages, and {len(found) - 1} trees")
-    return found[:-1]
+    return [it.removesuffix("\n") for it in written(program, pages, *words)]
+
+
+def prints(program, pages, *words):
+    """The prints of some pages: of the document, and of each node."""
+    return [it.split(PRINT_SEPARATOR) for it in written(program, pages, "print", *words)]
 
 
 def words_for(context, is_scripting):
@@ -88,15 +108,15 @@ def differing_among(program, pages, is_scripting, context=None):
     return [(page, context, is_scripting, ours, model) for page, ours, model in found if ours != model]
 
 
-def told(count, what, batches):
+def told(count, what, batches, other="the model"):
     """Shows the first that differ, and says how many of so many pages do."""
     differ = 0
     for found in batches:
         for page, context, is_scripting, ours, model in found:
             differ += 1
             if differ <= SHOWN:
-                print(f"{page!r} in {context}, scripting {is_scripting}\n  tl_tree: {ours!r}\n  model:   {model!r}", flush=True)
-    print(f"{count} {what}: {differ} differ between tl_tree and the model", flush=True)
+                print(f"{page!r} in {context}, scripting {is_scripting}\n  ours: {ours!r}\n  {other}: {model!r}", flush=True)
+    print(f"{count} {what}: {differ} differ between ours and {other}", flush=True)
     return differ
 
 
@@ -121,6 +141,41 @@ def against_browser(program, words):
                     print(f"{page!r}\n  tl_tree:  {ours!r}\n  Chromium: {wanted!r}", flush=True)
     print(f"{version(browser)}, {words.runs} made-up pages: {differ} differ between tl_tree and Chromium")
     return differ
+
+
+def differing_prints(seed, program, pieces):
+    """Of a batch of made-up pages that a seed gives those whose prints aren't the port's."""
+    warnings.simplefilter("ignore")
+    chance = random.Random(seed)
+    is_scripting = chance.random() < 0.2
+    pages = [rough(chance, pieces) for _ in range(BATCH)]
+    nodes = (tree_model.Builder(page.removeprefix(MARK), None, is_scripting).run() for page in pages)
+    wanted = (serializer.prints_of(it, is_scripting) for it in nodes)
+    found = prints(program, pages, *words_for(None, is_scripting))
+    return [(page, None, is_scripting, *it) for page, *it in zip(pages, found, wanted) if it[0] != it[1]]
+
+
+def prints_against_browser(program, words, pieces):
+    """Compares the prints of the program with Chromium's on made-up pages of which both have the same tree. How many differ."""
+    browser, chance = chromium(), random.Random(words.seed)
+    pages = [rough(chance, pieces) for _ in range(words.runs)]
+    lines = ["\n".join(it) for it in all_answers(browser, "documents.html", pages, tree_tests.BATCH)]
+    pages = [page for page, *it in zip(pages, trees(program, pages, "without-search"), lines) if it[0] == it[1]]
+    print(f"{version(browser)}: of {words.runs} pages {words.runs - len(pages)} have another tree there", flush=True)
+    wanted = all_answers(browser, "prints.html", pages, tree_tests.BATCH)
+    found = [(page, None, False, *it) for page, *it in zip(pages, prints(program, pages, "without-search"), wanted) if it[0] != it[1]]
+    return told(len(pages), "made-up pages printed", [found], "Chromium")
+
+
+def compared_prints(words, pieces):
+    """Compares prints of made-up pages. How many pages differ."""
+    program, pieces = words.program or helper_build("trees"), pieces + PRINTED
+    if words.chromium:
+        return prints_against_browser(program, words, pieces)
+    seeds = range(words.seed * 10**6, words.seed * 10**6 + (words.runs + BATCH - 1) // BATCH)
+    with concurrent.futures.ProcessPoolExecutor() as pool:
+        batches = pool.map(functools.partial(differing_prints, program=program, pieces=pieces), seeds)
+        return told(len(seeds) * BATCH, "made-up pages printed", batches, "the port")
 
 
 def compared(words, pieces, made, pages):

@@ -1,0 +1,130 @@
+"""Where selectors hold in misnested pages: `crates/tl_tree_select`, by the program of tools/trees, beside Chromium.
+
+Elements are told by their numbers among those of the document, without the contents of templates. Pages of which Chromium builds another
+tree are left out.
+"""
+import random
+
+from tools.running import run
+from tools.unproved import helper_build
+from tools.workspace import Stop
+
+from . import tree_tests
+from .chromium import all_answers, answers, chromium, version
+from .tree_program import SEPARATOR, SHOWN, trees
+
+NAMES = """p b i a div span li ul table tr td th tbody caption svg math g linearGradient foreignObject template h1 em nobr form input
+button title style font dl dd dt mi mtext annotation-xml image br hr pre textarea""".split()
+KEYS = "id class type lang href xlink:href viewBox data-x DIR Rel align xml:lang definitionURL checked title".split()
+VALUES = ["a", "A", "b", "x y", "A b", "text", "TEXT", "Foo", "foo", "en", "en-US", "EN-us", "", "a-b", "xa", "ax", " a ", "a\tb", "ltr", "LTR", "stylesheet"]
+WORDS = ["a", "A", "b", "x", "y", "Foo", "foo", "xa", "text"]
+DOCTYPES = ["", "<!doctype html>", "<!doctype html><html lang=en><head><title>t</title></head><body class=b>", '<!doctype html public "-//W3C//DTD HTML 3.2//EN">']
+OPS = ["=", "~=", "|=", "^=", "$=", "*="]
+PLAIN = "first-child last-child only-child first-of-type last-of-type only-of-type root empty".split()
+COUNTED = "nth-child nth-last-child nth-of-type nth-last-of-type".split()
+FORMULAS = ["1", "2", "odd", "even", "2n+1", "-n+2", "3n", "n+2", "n"]
+# So many pages with so many selectors are asked at once.
+PAGES, SELECTORS = 50, 200
+
+
+class Maker:
+    """Made-up pages and selectors, of the same names, keys and values."""
+
+    def __init__(self, seed):
+        self.chance = random.Random(seed)
+
+    def cased(self, text):
+        return text if self.chance.random() < 0.7 else "".join(self.chance.choice([it, it.upper()]) for it in text)
+
+    def attribute(self):
+        value = "" if self.chance.random() < 0.08 else f'="{self.chance.choice(VALUES)}"'
+        return f" {self.cased(self.chance.choice(KEYS))}{value}"
+
+    def start_tag(self, name):
+        attributes = "".join(self.attribute() for _ in range(self.chance.choice([0, 0, 1, 1, 2, 3])))
+        return f"<{self.cased(name)}{attributes}{'/' if self.chance.random() < 0.06 else ''}>"
+
+    def page(self):
+        parts, opened = [self.chance.choice(DOCTYPES)], []
+        for _ in range(self.chance.randint(5, 40)):
+            draw = self.chance.random()
+            if draw < 0.55:
+                opened.append(self.chance.choice(NAMES))
+                parts.append(self.start_tag(opened[-1]))
+            elif draw < 0.82 and opened:
+                parts.append(f"</{self.chance.choice(opened[-4:] if self.chance.random() < 0.8 else NAMES)}>")
+            else:
+                parts.append(self.chance.choice(["x", " ", "a b", "\n", "&amp;", "<!-- c -->", "<!---->", "<!doctype x>"]))
+        return "".join(parts)
+
+    def key(self):
+        return self.cased(self.chance.choice(KEYS)).replace(":", "\\:")
+
+    def test(self):
+        value = self.chance.choice(VALUES).replace("\t", "\\9 ")
+        return f'[{self.key()}{self.chance.choice(OPS)}"{value}"{self.chance.choice(["", "", "", " i"])}]'
+
+    def simple(self, depth):
+        kind = self.chance.choices(("id", "class", "key", "value", "plain", "counted", "nested"), (14, 16, 10, 22, 18, 10, 10))[0]
+        if kind == "nested" and depth < 2:
+            return self.nested(depth + 1)
+        return {
+            "id": lambda: "#" + self.chance.choice(WORDS),
+            "class": lambda: "." + self.chance.choice(WORDS),
+            "key": lambda: f"[{self.key()}]",
+            "value": self.test,
+            "counted": lambda: f":{self.chance.choice(COUNTED)}({self.chance.choice(FORMULAS)})",
+        }.get(kind, lambda: ":" + self.chance.choice(PLAIN))()
+
+    def nested(self, depth):
+        word = self.chance.choice(["not", "is", "where", "has", "nth-child"])
+        if word == "has":
+            return f":has({self.chance.choice(['', '> ', '+ ', '~ '])}{self.compound(2)})"
+        counted = f"{self.chance.choice(FORMULAS)} of " if word == "nth-child" else ""
+        return f":{word}({counted}{self.selector(depth)})"
+
+    def compound(self, depth):
+        name = self.cased(self.chance.choice([*NAMES, "*", "body", "html", "head", "svg", "p", "td"])) if self.chance.random() < 0.6 else ""
+        return name + "".join(self.simple(depth) for _ in range(self.chance.choice([0, 0, 1, 1, 2] if name else [1, 1, 2])))
+
+    def complex(self, depth):
+        joints = [self.chance.choice([" ", " > ", " + ", " ~ "]) for _ in range(self.chance.choice([0, 0, 0, 1, 1, 2]))]
+        return self.compound(depth) + "".join(joint + self.compound(depth) for joint in joints)
+
+    def selector(self, depth=0):
+        return ", ".join(self.complex(depth) for _ in range(self.chance.choice([1, 1, 1, 2])))
+
+
+def found(program, selector, pages):
+    """The numbers of the elements that the program finds in each page, or nothing where it reads no selector."""
+    asked = run([program, "without-search", "select", selector], given=SEPARATOR.join(pages).encode(), limit=600)
+    if asked.status == 1:
+        return None
+    if asked.status:
+        raise Stop(f"nothing is selected: {asked.ending()}")
+    return [[int(it) for it in line.split()] for line in asked.out.decode().split(SEPARATOR)[:-1]]
+
+
+def compared(words):
+    """Compares pairs of a page and a selector. How many differ."""
+    program, browser = words.program or helper_build("trees"), chromium()
+    pairs = hits = left_out = differ = 0
+    for batch in range((words.runs + PAGES * SELECTORS - 1) // (PAGES * SELECTORS)):
+        maker = Maker(words.seed * 10**6 + batch)
+        made = [maker.page() for _ in range(PAGES)]
+        lines = ["\n".join(it) for it in all_answers(browser, "documents.html", made, tree_tests.BATCH)]
+        pages = [page for page, ours, theirs in zip(made, trees(program, made, "without-search"), lines) if ours == theirs]
+        left_out += len(made) - len(pages)
+        selectors = [maker.selector() for _ in range(SELECTORS)]
+        for selector, wanted in zip(selectors, answers(browser, "tree_selectors.html", [{"pages": pages, "selectors": selectors}])):
+            ours = found(program, selector, pages)
+            if ours is None or wanted is None:
+                continue
+            pairs, hits = pairs + len(pages), hits + sum(map(bool, wanted))
+            for page, is_, should in zip(pages, ours, wanted):
+                if is_ != should:
+                    differ += 1
+                    if differ <= SHOWN:
+                        print(f"{selector!r} in {page!r}: {is_}, and {should} in Chromium", flush=True)
+    print(f"{version(browser)}, {pairs} pairs of a page and a selector, of which {hits} find something: {differ} differ; {left_out} pages left out, as they have another tree there")
+    return differ
