@@ -33,6 +33,8 @@ mod names;
 #[cfg(test)]
 mod page_edits;
 #[cfg(test)]
+mod printed;
+#[cfg(test)]
 mod raw_texts;
 #[cfg(test)]
 mod references;
