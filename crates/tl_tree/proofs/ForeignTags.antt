@@ -1,9 +1,9 @@
 -- Words in their case, and the attributes and tags that are put in with them.
-use Rattle.std.proofs.Common.{Bool, IsTrue, List, Option, [], add-one, ap, arith, drop, drop-cons, false, get_or, if◌then◌else◌, inl, inr, length, length-append, length-drop, map, nat_le, refl, subst, suc, sym, take, true, ℕ, ◌&&◌, ◌++◌, ◌+◌, ◌-◌, ◌<◌, ◌||◌, ◌∙◌, ◌∷◌, ◌≡◌, ◌≤◌}
+use Rattle.std.proofs.Common.{Bool, IsTrue, List, Option, [], add-one, ap, arith, drop, drop-cons, false, get_or, if◌then◌else◌, inl, inr, length, length-drop, map, nat_le, refl, subst, suc, sym, take, true, ℕ, ◌&&◌, ◌++◌, ◌+◌, ◌-◌, ◌<◌, ◌||◌, ◌∙◌, ◌∷◌, ◌≡◌, ◌≤◌}
 use Rattle.std.proofs.Math.Seq.{take-suc}
 use Rattle.std.proofs.lemmas.Bool.{and_from, and_parts, cond-false, cond-true, or_cases}
 use Rattle.std.proofs.lemmas.Cmp.{nat_list_eq_equiv}
-use Rattle.std.proofs.lemmas.List.{drop-append-le, drop-drop, drop-take, length-take-le, map-append, take_all}
+use Rattle.std.proofs.lemmas.List.{drop-append-le, drop-drop, drop-take, map-append, take_all}
 use Rattle.std.specs.Borrow.{Bor}
 use Rattle.std.specs.Char.{to_ascii_lowercase}
 use Rattle.std.specs.Str.{bytes_eq}
@@ -15,7 +15,7 @@ use Rattle.tl_tree.proofs.AlikeTags.{entries-long, entries-within, name-at, tag-
 use Rattle.tl_tree.proofs.Grown.{attribute-grown, bytes-grown, entries-kept, tag-grown}
 use Rattle.tl_tree.proofs.Listed.{all-drop, begins-longer}
 use Rattle.tl_tree.proofs.SaidTags.{attributes-same}
-use Rattle.tl_tree.proofs.Within.{le-more, or-left, or-right, span-bound}
+use Rattle.tl_tree.proofs.Within.{le-more, or-left, or-right}
 use Rattle.tl_tree.proofs.Written.{all-at}
 use Rattle.tl_tree.specs.Inner.Foreign.{own_name, renamed, spaced}
 use Rattle.tl_tree.specs.Inner.Lists.{in_list}
@@ -50,14 +50,6 @@ cased-later words i name h e = rest-cased words i name h ∙ cond-false _ _ _ e
 
 abbrev pub behind : Span → ℕ → Span
 behind span n = record { start = span.start + n; len = span.len - n }
-
-pub bytes-long : (s : Store) (span : Span) → IsTrue (is_span s span) → length (bytes_of s span) ≡ span.len
-unfolding bytes_of
-bytes-long s span h =
-    let bound = span-bound (length s.page.now) (length s.side.items) span h in
-    let all = length-append s.page.now s.side.items in
-    let many = length-drop span.start (text_of s) in
-    length-take-le span.len (drop span.start (text_of s)) (omega arith)
 
 pub bytes-behind : (s : Store) (span : Span) (n : ℕ) → n ≤ span.len → bytes_of s (behind span n) ≡ drop n (bytes_of s span)
 unfolding bytes_of
