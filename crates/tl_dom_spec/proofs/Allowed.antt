@@ -6,6 +6,7 @@ use Rattle.tl_html_spec.specs.HtmlTokenizer.{State, data_state, replacement}
 use Rattle.tl_html_spec.specs.Sound.{IsSome}
 use Rattle.tl_dom_spec.specs.Tags.{Attribute, Tag, bare_tag, is_any}
 use Rattle.tl_html_spec.specs.Doctypes.{Doctype}
+use Rattle.tl_dom_spec.specs.Marks.{Marked}
 use Rattle.tl_dom_spec.specs.Path.{Nodes, and_comment, and_doctype, and_element, and_text, at_head, joined, no_nodes, with_text}
 use Rattle.tl_dom_spec.specs.Builder.{with_more}
 
@@ -23,8 +24,10 @@ pub record Allowed : Type 1 where
   pub Stands : Tag → Type 0
   -- characters of texts, comments, doctypes
   pub Says : ℕ → Type 0
-  pub Notes : List ℕ → Type 0
-  pub Types : Doctype → Type 0
+  pub Notes : Marked (List ℕ) → Type 0
+  pub Types : Marked Doctype → Type 0
+  -- how many marks may stand before a text
+  pub Gaps : ℕ → Type 0
   -- attributes that a start tag of `html` or `body` may add
   pub Adds : List Attribute → Type 0
   -- states that the tokenizer may be set to
@@ -68,8 +71,11 @@ each_append P [] v h k = k
 each_append P (b ∷ w) v h k = (h.0, each_append P w v h.1 k)
 
 module _ (R : Allowed) where
-  abbrev pub IsText : List ℕ → Type 0
-  IsText bytes = (R.Whole → IsSome bytes) × Each R.Says bytes
+  abbrev pub AreWords : List ℕ → Type 0
+  AreWords bytes = (R.Whole → IsSome bytes) × Each R.Says bytes
+
+  abbrev pub IsText : Marked (List ℕ) → Type 0
+  IsText own = AreWords own.said × R.Gaps own.source
 
   abbrev pub Good : Nodes → Type 0
   Good no_nodes = ⊤
@@ -78,10 +84,10 @@ module _ (R : Allowed) where
   Good (and_doctype nodes own) = R.Types own × Good nodes
   Good (and_element nodes tag children) = ((R.Opens tag × Good children) ⊎ (R.Stands tag × (children ≡ no_nodes))) × Good nodes
 
-  with_text-Good : (nodes : Nodes) (bytes : List ℕ) → Good nodes → IsText bytes → Good (with_text nodes bytes)
+  with_text-Good : (nodes : Nodes) (bytes : Marked (List ℕ)) → Good nodes → IsText bytes → Good (with_text nodes bytes)
   with_text-Good no_nodes bytes g h = (h, (λ _. refl), tt)
   with_text-Good (and_text nodes own) bytes g h =
-      ((λ w. some_append own bytes (g.0.0 w), each_append R.Says own bytes g.0.1 h.1), g.1, g.2)
+      (((λ w. some_append own.said bytes.said (g.0.0.0 w), each_append R.Says own.said bytes.said g.0.0.1 h.0.1), g.0.1), g.1, g.2)
   with_text-Good (and_comment nodes own) bytes g h = (h, (λ _. refl), g)
   with_text-Good (and_doctype nodes own) bytes g h = (h, (λ _. refl), g)
   with_text-Good (and_element nodes tag children) bytes g h = (h, (λ _. refl), g)

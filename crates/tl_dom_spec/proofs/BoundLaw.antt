@@ -8,7 +8,7 @@ use Rattle.tl_html_spec.specs.HtmlTokenizer.{Character, CommentToken, DoctypeTok
 use Rattle.tl_dom_spec.specs.Tags.{html_tag, is_any}
 use Rattle.tl_dom_spec.specs.Groups.{group}
 use Rattle.tl_dom_spec.specs.Builder.{Flags, Token}
-use Rattle.tl_dom_spec.specs.Dispatcher.{numbered, starts_behind, tokens_done}
+use Rattle.tl_dom_spec.specs.Dispatcher.{marks_behind, numbered, tokens_done}
 use Rattle.tl_dom_spec.specs.Driver.{emitted_token, token_of}
 use Rattle.tl_dom_spec.specs.HtmlTree.{Context, fragment_start, page_start}
 use Rattle.tl_dom_spec.specs.Lawful.{IsDoneWith, all_numbered}
@@ -56,15 +56,15 @@ grouped_token n DoctypeToken = tt
 
 grouped_emissions : (n : ℕ) (emissions : List Emission) → Each (Allows grouped) (all_numbered n (map emitted_token emissions))
 grouped_emissions n [] = tt
-grouped_emissions n (plain token ∷ emissions) = (grouped_token n token, grouped_emissions (starts_behind n (token_of token)) emissions)
-grouped_emissions n (doctype_of own ∷ emissions) = (tt, grouped_emissions n emissions)
+grouped_emissions n (plain token ∷ emissions) = (grouped_token n token, grouped_emissions (marks_behind n (token_of token)) emissions)
+grouped_emissions n (doctype_of own ∷ emissions) = (tt, grouped_emissions (suc n) emissions)
 
 pub page_done : (flags : Flags) (emissions : List Emission) (token : Token) → IsDoneWith (tokens_done (page_start flags) (map emitted_token emissions)) token
 page_done flags emissions token =
-    let held = tokens-Holds grouped (page_start flags) (map emitted_token emissions) (grouped_emissions 0 emissions) (page_start-Holds grouped flags tt tt) in
+    let held = tokens-Holds grouped (page_start flags) (map emitted_token emissions) (grouped_emissions 0 emissions) (λ _ _. tt) (page_start-Holds grouped flags tt tt tt) in
     bound_suffices token (tokens_done (page_start flags) (map emitted_token emissions)) (held.1 tt)
 
 pub fragment_done : (flags : Flags) (context : Context) (emissions : List Emission) (token : Token) → IsDoneWith (tokens_done (fragment_start flags context) (map emitted_token emissions)) token
 fragment_done flags context emissions token =
-    let held = tokens-Holds grouped (fragment_start flags context) (map emitted_token emissions) (grouped_emissions 0 emissions) (fragment_start-Holds grouped flags context tt tt tt) in
+    let held = tokens-Holds grouped (fragment_start flags context) (map emitted_token emissions) (grouped_emissions 0 emissions) (λ _ _. tt) (fragment_start-Holds grouped flags context tt tt tt tt) in
     bound_suffices token (tokens_done (fragment_start flags context) (map emitted_token emissions)) (held.1 tt)

@@ -4,21 +4,23 @@ use Rattle.std.specs.Prelude.{⊤, nat_lt}
 use Rattle.std.proofs.lemmas.Bool.{cond_both}
 use Rattle.tl_html_spec.specs.HtmlTokenizer.{State}
 use Rattle.tl_dom_spec.specs.Tags.{Attribute, Tag, is_implied_thoroughly, is_template}
+use Rattle.tl_dom_spec.specs.Marks.{Marked, marked}
 use Rattle.tl_dom_spec.specs.Path.{Frame, Path, Place, and_comment, and_element, and_text, is_open_number, no_nodes, popped_while}
 use Rattle.tl_dom_spec.specs.Builder.{Again, Builder, Done, Entry, Outcome, add_attributes, appropriate_place, clear_stack_back_to, clear_to_last_marker, close_except_for, formatting, generate_implied_end_tags_except_for, has_template, insert_and_pop, insert_and_pop_at, insert_bytes, insert_character, insert_comment, insert_comment_at, insert_element, insert_element_at, insert_marker, marker, outcome_map, parse_raw_text, parse_raw_text_at, pop_current_node, pop_until, repeated, state_inside, with_path, without_last_marker}
 use Rattle.tl_dom_spec.specs.Formatting.{alike_count, insert_formatting_element, is_alike, reconstruct_formatting, reopen, reopen_each, with_room, without_earliest}
 use Rattle.tl_dom_spec.specs.Reset.{close_template, reset_insertion_mode, template_end_tag}
-use Rattle.tl_dom_spec.proofs.Allowed.{Allowed, Each, IfSome, IsText, alone-Good}
+use Rattle.tl_dom_spec.proofs.Allowed.{Allowed, AreWords, Each, IfSome, alone-Good}
 use Rattle.tl_dom_spec.proofs.Paths.{Frames, implied_closed-Frames, more-Frames, popped-Frames, popped_through-Frames, popped_to-Frames, popped_while-Frames, pushed_at-Frames, put-Frames}
 
 -- beside the path and what waits for it: what drives the tokenizer, which is the state that is set, the context element, and whether
--- scripting is on; and by how many the elements were too many
-pub record Drives (Reads : State → Type 0) (Around : Tag → Type 0) (Scripts : Bool → Type 0) (Exceeds : ℕ → Type 0)
-    (reads : State) (context : Option Tag) (is_scripting : Bool) (number : ℕ) : Type 0 where
+-- scripting is on; by how many the elements were too many, and how many marks were taken
+pub record Drives (Reads : State → Type 0) (Around : Tag → Type 0) (Scripts : Bool → Type 0) (Exceeds Gaps : ℕ → Type 0)
+    (reads : State) (context : Option Tag) (is_scripting : Bool) (number marks : ℕ) : Type 0 where
   pub state : Reads reads
   pub around : IfSome Around context
   pub scripts : Scripts is_scripting
   pub excess : Exceeds number
+  pub gaps : Gaps marks
 
 module _ (R : Allowed) where
   abbrev pub Entered : Entry → Type 0
@@ -29,7 +31,7 @@ module _ (R : Allowed) where
   Entries entries = Each Entered entries
 
   abbrev pub Holds : Builder → Type 0
-  Holds b = Frames R b.path × Entries b.active × Each R.Says b.pending × Drives R.Reads R.Around R.Scripts R.Exceeds b.reads b.context b.flags.is_scripting b.excess
+  Holds b = Frames R b.path × Entries b.active × Each R.Says b.pending × Drives R.Reads R.Around R.Scripts R.Exceeds R.Gaps b.reads b.context b.flags.is_scripting b.excess b.marks
 
   abbrev pub HoldsAfter : Outcome → Type 0
   HoldsAfter (Done b) = Holds b
@@ -97,23 +99,23 @@ module _ (R : Allowed) where
   pub alone-Holds : (tag : Tag) (b : Builder) → R.Stands tag → Holds b → Holds (insert_and_pop tag b)
   alone-Holds tag b s h = alone_at-Holds (appropriate_place b) tag b s h
 
-  pub bytes-Holds : (bytes : List ℕ) (b : Builder) → IsText R bytes → Holds b → Holds (insert_bytes bytes b)
-  bytes-Holds bytes b t h = (put-Frames R (appropriate_place b) (and_text no_nodes bytes) b.path (t, (λ _. refl), tt) h.0, h.1, h.2, h.3)
+  pub bytes-Holds : (bytes : List ℕ) (b : Builder) → AreWords R bytes → Holds b → Holds (insert_bytes bytes b)
+  bytes-Holds bytes b t h = (put-Frames R (appropriate_place b) (and_text no_nodes (marked b.marks bytes)) b.path ((t, h.3.gaps), (λ _. refl), tt) h.0, h.1, h.2, h.3)
 
   pub character-Holds : (c : ℕ) (b : Builder) → R.Says c → Holds b → Holds (insert_character c b)
   character-Holds c b s h = bytes-Holds (c ∷ []) b ((λ _. tt), (s, tt)) h
 
-  pub comment_at-Holds : (place : Place) (bytes : List ℕ) (b : Builder) → R.Notes bytes → Holds b → Holds (insert_comment_at place bytes b)
+  pub comment_at-Holds : (place : Place) (bytes : Marked (List ℕ)) (b : Builder) → R.Notes bytes → Holds b → Holds (insert_comment_at place bytes b)
   comment_at-Holds place bytes b n h = (put-Frames R place (and_comment no_nodes bytes) b.path (n, tt) h.0, h.1, h.2, h.3)
 
-  pub comment-Holds : (bytes : List ℕ) (b : Builder) → R.Notes bytes → Holds b → Holds (insert_comment bytes b)
+  pub comment-Holds : (bytes : Marked (List ℕ)) (b : Builder) → R.Notes bytes → Holds b → Holds (insert_comment bytes b)
   comment-Holds bytes b n h = comment_at-Holds (appropriate_place b) bytes b n h
 
   pub attributes-Holds : (k : ℕ) (more : List Attribute) (b : Builder) → R.Adds more → Holds b → Holds (add_attributes k more b)
   attributes-Holds k more b a h = (more-Frames R k more b.path a h.0, h.1, h.2, h.3)
 
   pub raw_text_at-Holds : (place : Place) (tag : Tag) (b : Builder) → R.Opens tag → R.Reads (state_inside tag.name) → Holds b → Holds (parse_raw_text_at place tag b)
-  raw_text_at-Holds place tag b o r h = let put = insert_at-Holds place tag b o h in (put.0, put.1, put.2, record { state = r; around = h.3.around; scripts = h.3.scripts; excess = h.3.excess })
+  raw_text_at-Holds place tag b o r h = let put = insert_at-Holds place tag b o h in (put.0, put.1, put.2, record { state = r; around = h.3.around; scripts = h.3.scripts; excess = h.3.excess; gaps = h.3.gaps })
 
   pub raw_text-Holds : (tag : Tag) (b : Builder) → R.Opens tag → R.Reads (state_inside tag.name) → Holds b → Holds (parse_raw_text tag b)
   raw_text-Holds tag b o r h = raw_text_at-Holds (appropriate_place b) tag b o r h

@@ -1,5 +1,5 @@
 -- The dispatcher, foreign content and tokens: what holds of a builder holds after each token, and at the start.
-use Rattle.std.proofs.Common.{Bool, List, None, Option, Some, [], ap, codes, arith, false, if◌then◌else◌, inl, inr, ltb-true, not, refl, suc, sym, true, true≢false, ℕ, ◌&&◌, ◌==◌, ◌||◌, ◌∷◌, ◌≡◌, ◌⊎◌}
+use Rattle.std.proofs.Common.{Bool, List, None, Option, Some, [], ap, codes, arith, false, if◌then◌else◌, inl, inr, le_refl, ltb-true, not, refl, suc, sym, true, true≢false, ℕ, ◌&&◌, ◌==◌, ◌||◌, ◌∷◌, ◌≡◌, ◌≤◌, ◌⊎◌}
 use Rattle.std.specs.Prelude.{nat_lt}
 use Rattle.std.specs.Char.{is_ascii_whitespace}
 use Rattle.std.proofs.lemmas.Bool.{cond_both}
@@ -10,13 +10,13 @@ use Rattle.tl_dom_spec.specs.Groups.{Group, a_break, a_paragraph}
 use Rattle.tl_dom_spec.specs.Path.{Path, document, elements, has_number, top}
 use Rattle.tl_dom_spec.specs.Builder.{Again, Builder, Done, Flags, Mode, Token, a_character, a_comment, a_doctype, a_start, adjusted_current_node, adjusted_tag, after_after_body, after_after_frameset, after_body, after_frameset, after_head, an_end, before_head, before_html, end_of_file, frameset_not_ok, in_body, in_caption, in_cell, in_column_group, in_frameset, in_head, in_head_noscript, in_row, in_table, in_table_body, in_table_text, in_template, initial, insert_bytes, insert_character, is_only, repeated, text_mode}
 use Rattle.tl_dom_spec.specs.Adjusted.{foreign_name, insert_foreign_element}
-use Rattle.tl_dom_spec.specs.Dispatcher.{Found, bound, breaks_out, broken_out, by_mode, calm, count_token, dispatch, excess_of, foreign_character, foreign_end, foreign_end_at, foreign_start, foreign_step, found_in, html_step, is_html_content, is_html_place, is_line_feed, is_svg_start, mode_step, nothing, numbered, the_frame, token_done, tokens_done}
+use Rattle.tl_dom_spec.specs.Dispatcher.{Found, bound, breaks_out, broken_out, by_mode, calm, count_token, dispatch, excess_of, foreign_character, foreign_end, foreign_end_at, foreign_start, foreign_step, found_in, html_step, is_html_content, is_html_place, is_line_feed, is_svg_start, mode_step, nothing, marks_behind, numbered, the_frame, token_done, tokens_done}
 use Rattle.tl_dom_spec.specs.HtmlTree.{Context, fragment_start, page_start}
 use Rattle.tl_dom_spec.proofs.Allowed.{Allowed, Each, IfSome}
 use Rattle.tl_dom_spec.proofs.Paths.{Frames, top-opens}
 use Rattle.tl_dom_spec.specs.Lawful.{all_numbered, is_text_mode}
 use Rattle.tl_dom_spec.proofs.Steady.{fragment-steady, page-steady}
-use Rattle.tl_dom_spec.proofs.Kept.{Holds, HoldsAfter, bytes-Holds, character-Holds, comment-Holds, either, either-after, excess-Holds, popped_through-Holds, popped_to-Holds, reads-Holds, repeated-Holds}
+use Rattle.tl_dom_spec.proofs.Kept.{Holds, HoldsAfter, bytes-Holds, character-Holds, comment-Holds, either, either-after, excess-Holds, marks-Holds, popped_through-Holds, popped_to-Holds, reads-Holds, repeated-Holds}
 use Rattle.tl_dom_spec.proofs.HeadRules.{Allows, Starts, after_head_step-Holds, before_head_step-Holds, before_html_step-Holds, in_head_noscript_step-Holds, in_head_step-Holds, initial_step-Holds, text_step-Holds}
 use Rattle.tl_dom_spec.proofs.BodyRules.{foreign-Holds, in_body_step-Holds}
 use Rattle.tl_dom_spec.proofs.TableRules.{in_caption_step-Holds, in_cell_step-Holds, in_column_group_step-Holds, in_row_step-Holds, in_table_body_step-Holds, in_table_step-Holds, in_table_text_step-Holds}
@@ -140,28 +140,54 @@ count-Holds R b h =
     (λ e. excess-Holds R (excess_of taken) taken (R.grows b.excess (excess_of taken) (omega (arith, ltb-true b.excess (excess_of taken) e)) h.0.3.excess) h)
     (λ _. h)
 
-pub token-Holds : (R : Allowed) (b : Builder) (token : Token) → Allows R (numbered b.starts token) → Holds R b → Holds R (token_done b token)
-token-Holds R b token k h =
-    let own : Token = numbered b.starts token in
+-- how many marks were taken, once tokens are
+abbrev pub marks_after : ℕ → List Token → ℕ
+marks_after n [] = n
+marks_after n (token ∷ tokens) = marks_after (marks_behind n token) tokens
+
+pub marks_are : (b : Builder) (tokens : List Token) → (tokens_done b tokens).marks ≡ marks_after b.marks tokens
+marks_are b [] = refl
+marks_are b (token ∷ tokens) = marks_are (token_done b token) tokens
+
+behind-least : (n : ℕ) (token : Token) → n ≤ marks_behind n token
+behind-least n (a_character c) = le_refl n
+behind-least n (a_start g t closes) = omega arith
+behind-least n (an_end g name) = omega arith
+behind-least n (a_comment own) = omega arith
+behind-least n (a_doctype own) = omega arith
+behind-least n end_of_file = le_refl n
+
+pub after-least : (n : ℕ) (tokens : List Token) → n ≤ marks_after n tokens
+after-least n [] = le_refl n
+after-least n (token ∷ tokens) =
+    let one = behind-least n token in
+    let more = after-least (marks_behind n token) tokens in
+    omega (arith, one, more)
+
+pub token-Holds : (R : Allowed) (b : Builder) (token : Token) → Allows R (numbered b.marks token) → R.Gaps (marks_behind b.marks token) → Holds R b → Holds R (token_done b token)
+token-Holds R b token k g h =
+    let own : Token = numbered b.marks token in
     let taken : Builder = if b.skips && is_line_feed token then calm b else repeated (bound b) (dispatch own) (Again (calm b)) in
-    count-Holds R taken
+    marks-Holds R (marks_behind b.marks token) (count_token taken) g (count-Holds R taken
     (either R (b.skips && is_line_feed token) (calm b) (repeated (bound b) (dispatch own) (Again (calm b)))
     (calm-Holds R b h)
-    (repeated-Holds R (bound b) (dispatch own) (Again (calm b)) (λ c i. dispatch-Holds R own c k i) (calm-Holds R b h)))
+    (repeated-Holds R (bound b) (dispatch own) (Again (calm b)) (λ c i. dispatch-Holds R own c k i) (calm-Holds R b h))))
 
-pub tokens-Holds : (R : Allowed) (b : Builder) (tokens : List Token) → Each (Allows R) (all_numbered b.starts tokens) → Holds R b → Holds R (tokens_done b tokens)
-tokens-Holds R b [] k h = h
-tokens-Holds R b (token ∷ tokens) k h = tokens-Holds R (token_done b token) tokens k.1 (token-Holds R b token k.0 h)
+pub tokens-Holds : (R : Allowed) (b : Builder) (tokens : List Token) → Each (Allows R) (all_numbered b.marks tokens) → ((n : ℕ) → n ≤ marks_after b.marks tokens → R.Gaps n) → Holds R b → Holds R (tokens_done b tokens)
+tokens-Holds R b [] k g h = h
+tokens-Holds R b (token ∷ tokens) k g h =
+    let next : ℕ = marks_behind b.marks token in
+    tokens-Holds R (token_done b token) tokens k.1 g (token-Holds R b token k.0 (g next (after-least next tokens)) h)
 
 -- before the first token
 
 document-Frames : (R : Allowed) → Frames R (document ∷ [])
 document-Frames R = ((tt, tt), ((λ e. absurd (true≢false (sym e))), inr refl), tt)
 
-pub page_start-Holds : (R : Allowed) (flags : Flags) → R.Scripts flags.is_scripting → R.Exceeds 0 → Holds R (page_start flags)
-page_start-Holds R flags s x =
-    ((document-Frames R, tt, tt, record { state = R.data_read; around = tt; scripts = s; excess = x }), λ _. page-steady flags)
+pub page_start-Holds : (R : Allowed) (flags : Flags) → R.Scripts flags.is_scripting → R.Exceeds 0 → R.Gaps 0 → Holds R (page_start flags)
+page_start-Holds R flags s x g =
+    ((document-Frames R, tt, tt, record { state = R.data_read; around = tt; scripts = s; excess = x; gaps = g }), λ _. page-steady flags)
 
-pub fragment_start-Holds : (R : Allowed) (flags : Flags) (context : Context) → R.Scripts flags.is_scripting → R.Exceeds 0 → R.Around context.tag → Holds R (fragment_start flags context)
-fragment_start-Holds R flags context s x a =
-    ((((tt, tt), R.html, document-Frames R), tt, tt, record { state = R.data_read; around = a; scripts = s; excess = x }), λ _. fragment-steady flags context)
+pub fragment_start-Holds : (R : Allowed) (flags : Flags) (context : Context) → R.Scripts flags.is_scripting → R.Exceeds 0 → R.Around context.tag → R.Gaps 0 → Holds R (fragment_start flags context)
+fragment_start-Holds R flags context s x a g =
+    ((((tt, tt), R.html, document-Frames R), tt, tt, record { state = R.data_read; around = a; scripts = s; excess = x; gaps = g }), λ _. fragment-steady flags context)

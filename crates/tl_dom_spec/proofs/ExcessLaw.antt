@@ -60,7 +60,7 @@ any_bytes (b ∷ bytes) = (tt, any_bytes bytes)
 
 any_nodes : (n : ℕ) (nodes : Nodes) → Good (at_least n) nodes
 any_nodes n no_nodes = tt
-any_nodes n (and_text nodes bytes) = (((λ w. absurd w), any_bytes bytes), (λ w. absurd w), any_nodes n nodes)
+any_nodes n (and_text nodes bytes) = ((((λ w. absurd w), any_bytes bytes.said), tt), (λ w. absurd w), any_nodes n nodes)
 any_nodes n (and_comment nodes bytes) = (tt, any_nodes n nodes)
 any_nodes n (and_doctype nodes own) = (tt, any_nodes n nodes)
 any_nodes n (and_element nodes tag children) = (inl (tt, any_nodes n children), any_nodes n nodes)
@@ -88,7 +88,7 @@ any_builder b = (
     any_frames b.excess b.path,
     any_entries b.excess b.active,
     any_bytes b.pending,
-    record { state = tt; around = any_context b.context; scripts = tt; excess = le_refl b.excess },
+    record { state = tt; around = any_context b.context; scripts = tt; excess = le_refl b.excess; gaps = tt },
   ),
   λ y. absurd y,
 )
@@ -96,7 +96,7 @@ any_builder b = (
 -- so no token makes it less
 
 pub tokens_excess : (b : Builder) (tokens : List Token) → b.excess ≤ (tokens_done b tokens).excess
-tokens_excess b tokens = (tokens-Holds (at_least b.excess) b tokens (least_tokens b.excess (all_numbered b.starts tokens)) (any_builder b)).0.3.excess
+tokens_excess b tokens = (tokens-Holds (at_least b.excess) b tokens (least_tokens b.excess (all_numbered b.marks tokens)) (λ _ _. tt) (any_builder b)).0.3.excess
 
 pub token_excess : (b : Builder) (token : Token) → b.excess ≤ (token_done b token).excess
 token_excess b token = tokens_excess b (token ∷ [])

@@ -4,13 +4,14 @@ use Rattle.std.proofs.lemmas.Bool.{cond_both}
 use Rattle.tl_html_spec.specs.HtmlTokenizer.{State}
 use Rattle.tl_html_spec.specs.Doctypes.{Doctype}
 use Rattle.tl_dom_spec.specs.Tags.{Attribute, Tag, is_implied_thoroughly, is_template}
+use Rattle.tl_dom_spec.specs.Marks.{Marked, marked}
 use Rattle.tl_dom_spec.specs.Path.{Frame, Place, and_comment, and_doctype, and_element, and_text, here, no_nodes, popped_through, popped_to, popped_while, put, taken_out}
 use Rattle.tl_dom_spec.specs.Builder.{Again, Builder, Done, Outcome, add_attributes, appropriate_place, clear_stack_back_to, clear_to_last_marker, close_except_for, generate_implied_end_tags_except_for, has_template, insert_and_pop, insert_and_pop_at, insert_bytes, insert_character, insert_comment, insert_comment_at, insert_element, insert_element_at, insert_marker, outcome_map, parse_raw_text, parse_raw_text_at, pop_current_node, pop_until, repeated, state_inside, with_path}
 use Rattle.tl_dom_spec.specs.Formatting.{insert_formatting_element, reconstruct_formatting, unlisted}
 use Rattle.tl_dom_spec.specs.Adoption.{adoption_agency, any_other_end_tag}
 use Rattle.tl_dom_spec.specs.Reset.{close_template, template_end_tag}
 use Rattle.tl_dom_spec.specs.Body.{from_html}
-use Rattle.tl_dom_spec.proofs.Allowed.{Allowed, IsText, each_append}
+use Rattle.tl_dom_spec.proofs.Allowed.{Allowed, AreWords, each_append}
 use Rattle.tl_dom_spec.proofs.Paths.{from_html-Frames, popped_through-Frames, popped_to-Frames, popped_while-Frames, put-Frames, taken_out-Frames}
 use Rattle.tl_dom_spec.proofs.Builders as B
 use Rattle.tl_dom_spec.proofs.Adopting as A
@@ -49,10 +50,13 @@ module _ (R : Allowed) where
   -- what is set
 
   pub reads-Holds : (state : State) (b : Builder) → R.Reads state → Holds b → Holds (record b { reads = state })
-  reads-Holds state b r h = ((h.0.0, h.0.1, h.0.2, record { state = r; around = h.0.3.around; scripts = h.0.3.scripts; excess = h.0.3.excess }), h.1)
+  reads-Holds state b r h = ((h.0.0, h.0.1, h.0.2, record { state = r; around = h.0.3.around; scripts = h.0.3.scripts; excess = h.0.3.excess; gaps = h.0.3.gaps }), h.1)
 
   pub excess-Holds : (n : ℕ) (b : Builder) → R.Exceeds n → Holds b → Holds (record b { excess = n })
-  excess-Holds n b x h = ((h.0.0, h.0.1, h.0.2, record { state = h.0.3.state; around = h.0.3.around; scripts = h.0.3.scripts; excess = x }), h.1)
+  excess-Holds n b x h = ((h.0.0, h.0.1, h.0.2, record { state = h.0.3.state; around = h.0.3.around; scripts = h.0.3.scripts; excess = x; gaps = h.0.3.gaps }), h.1)
+
+  pub marks-Holds : (n : ℕ) (b : Builder) → R.Gaps n → Holds b → Holds (record b { marks = n })
+  marks-Holds n b x h = ((h.0.0, h.0.1, h.0.2, record { state = h.0.3.state; around = h.0.3.around; scripts = h.0.3.scripts; excess = h.0.3.excess; gaps = x }), h.1)
 
   pub none_pending-Holds : (b : Builder) → Holds b → Holds (record b { pending = [] })
   none_pending-Holds b h = ((h.0.0, h.0.1, tt, h.0.3), h.1)
@@ -118,19 +122,19 @@ module _ (R : Allowed) where
   pub alone-Holds : (tag : Tag) (b : Builder) → R.Stands tag → Holds b → Holds (insert_and_pop tag b)
   alone-Holds tag b o h = alone_at-Holds (appropriate_place b) tag b o h
 
-  pub bytes-Holds : (bytes : List ℕ) (b : Builder) → IsText R bytes → Holds b → Holds (insert_bytes bytes b)
-  bytes-Holds bytes b t h = (B.bytes-Holds R bytes b t h.0, λ g. X.put-steady (appropriate_place b) (and_text no_nodes bytes) b (h.1 g))
+  pub bytes-Holds : (bytes : List ℕ) (b : Builder) → AreWords R bytes → Holds b → Holds (insert_bytes bytes b)
+  bytes-Holds bytes b t h = (B.bytes-Holds R bytes b t h.0, λ g. X.put-steady (appropriate_place b) (and_text no_nodes (marked b.marks bytes)) b (h.1 g))
 
   pub character-Holds : (c : ℕ) (b : Builder) → R.Says c → Holds b → Holds (insert_character c b)
   character-Holds c b k h = bytes-Holds (c ∷ []) b ((λ _. tt), (k, tt)) h
 
-  pub comment_at-Holds : (place : Place) (bytes : List ℕ) (b : Builder) → R.Notes bytes → Holds b → Holds (insert_comment_at place bytes b)
+  pub comment_at-Holds : (place : Place) (bytes : Marked (List ℕ)) (b : Builder) → R.Notes bytes → Holds b → Holds (insert_comment_at place bytes b)
   comment_at-Holds place bytes b n h = (B.comment_at-Holds R place bytes b n h.0, λ g. X.put-steady place (and_comment no_nodes bytes) b (h.1 g))
 
-  pub comment-Holds : (bytes : List ℕ) (b : Builder) → R.Notes bytes → Holds b → Holds (insert_comment bytes b)
+  pub comment-Holds : (bytes : Marked (List ℕ)) (b : Builder) → R.Notes bytes → Holds b → Holds (insert_comment bytes b)
   comment-Holds bytes b n h = comment_at-Holds (appropriate_place b) bytes b n h
 
-  pub doctype-Holds : (own : Doctype) (b : Builder) → R.Types own → Holds b → Holds (with_path b (put here (and_doctype no_nodes own) b.path))
+  pub doctype-Holds : (own : Marked Doctype) (b : Builder) → R.Types own → Holds b → Holds (with_path b (put here (and_doctype no_nodes own) b.path))
   doctype-Holds own b t h = (
     (put-Frames R here (and_doctype no_nodes own) b.path (t, tt) h.0.0, h.0.1, h.0.2, h.0.3),
     λ g. X.put-steady here (and_doctype no_nodes own) b (h.1 g),

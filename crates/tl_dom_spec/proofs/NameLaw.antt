@@ -49,6 +49,7 @@ named = record {
   Says = λ _. ⊤;
   Notes = λ _. ⊤;
   Types = λ _. ⊤;
+  Gaps = λ _. ⊤;
   Adds = λ _. ⊤;
   Reads = λ _. ⊤;
   Around = λ _. ⊤;
@@ -91,9 +92,9 @@ pub named_tokens : (n : ℕ) (tokens : List Token) → HaveNames tokens → Each
 named_tokens n [] s = tt
 named_tokens n (a_character c ∷ tokens) s = (tt, named_tokens n tokens s)
 named_tokens n (a_start g t closes ∷ tokens) s = (named_start g (record t { source = Some n }) s.0, named_tokens (suc n) tokens s.1)
-named_tokens n (an_end g name ∷ tokens) s = (tt, named_tokens n tokens s)
-named_tokens n (a_comment bytes ∷ tokens) s = (tt, named_tokens n tokens s)
-named_tokens n (a_doctype own ∷ tokens) s = (tt, named_tokens n tokens s)
+named_tokens n (an_end g name ∷ tokens) s = (tt, named_tokens (suc n) tokens s)
+named_tokens n (a_comment bytes ∷ tokens) s = (tt, named_tokens (suc n) tokens s)
+named_tokens n (a_doctype own ∷ tokens) s = (tt, named_tokens (suc n) tokens s)
 named_tokens n (end_of_file ∷ tokens) s = (tt, named_tokens n tokens s)
 
 pub sound_names : (tokens : List HtmlToken) → AreSound tokens → HaveNames (map token_of tokens)
@@ -112,11 +113,11 @@ pub names_of : (trees : HtmlForest) → Follows named trees → AreNamed trees
 names_of trees f = elements-weaken (Owned named) (λ tag below. IsSome tag.name) trees some_name f.elements
 
 pub built_names : (flags : Flags) (tokens : List Token) → HaveNames tokens → AreNamed (page_built flags tokens).trees
-built_names flags tokens s = names_of (page_built flags tokens).trees (page-Follows named flags tokens tt tt (named_tokens 0 tokens s))
+built_names flags tokens s = names_of (page_built flags tokens).trees (page-Follows named flags tokens tt tt (named_tokens 0 tokens s) (λ _ _. tt))
 
 pub built_fragment_names : (flags : Flags) (context : Context) (tokens : List Token) → HaveNames tokens → AreNamed (fragment_built flags context tokens)
 built_fragment_names flags context tokens s =
-    names_of (fragment_built flags context tokens) (fragment-Follows named flags context tokens tt tt tt (named_tokens 0 tokens s))
+    names_of (fragment_built flags context tokens) (fragment-Follows named flags context tokens tt tt tt (named_tokens 0 tokens s) (λ _ _. tt))
 
 -- the tokenizer is set to such states alone as have nothing to do with a tag
 abbrev reading : Allowed
@@ -150,11 +151,11 @@ reading_token end_of_file = tt
 
 names_from : (b : Builder) (state : State) (text : List ℕ) → Holds reading b → IsNamed state → HaveNames (map emitted_token (driven_tokens builder (driving b (in_state state)) text))
 names_from b state text h s =
-    driven_names builder (Holds reading) (λ b e h. token-Holds reading b (emitted_token e) (reading_token (numbered b.starts (emitted_token e))) h) (λ b h. h.0.3.state)
+    driven_names builder (Holds reading) (λ b e h. token-Holds reading b (emitted_token e) (reading_token (numbered b.marks (emitted_token e))) tt h) (λ b h. h.0.3.state)
     (driving b (in_state state)) text h s
 
 pub page_starts : (flags : Flags) (page : List ℕ) → HaveNames (tokens_of_page flags page)
-page_starts flags page = names_from (page_start flags) data_state (without_mark page) (page_start-Holds reading flags tt tt) tt
+page_starts flags page = names_from (page_start flags) data_state (without_mark page) (page_start-Holds reading flags tt tt tt) tt
 
 context_named : (flags : Flags) (tag : Tag) → IsNamed (context_state flags tag)
 context_named flags tag =
@@ -163,7 +164,7 @@ context_named flags tag =
 
 pub fragment_starts : (flags : Flags) (context : Context) (bytes : List ℕ) → HaveNames (tokens_of_fragment flags context bytes)
 fragment_starts flags context bytes =
-    names_from (fragment_start flags context) (context_state flags context.tag) bytes (fragment_start-Holds reading flags context tt tt tt)
+    names_from (fragment_start flags context) (context_state flags context.tag) bytes (fragment_start-Holds reading flags context tt tt tt tt)
     (context_named flags context.tag)
 
 pub page_names : (flags : Flags) (page : List ℕ) → AreNamed (html_tree_by flags page).trees

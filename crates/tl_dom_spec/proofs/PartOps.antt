@@ -4,6 +4,7 @@ use Rattle.tl_html_spec.specs.HtmlTokenizer.{State}
 use Rattle.tl_tree_spec.specs.Builder as P
 use Rattle.tl_tree_spec.specs.HtmlForest.{HtmlTag}
 use Rattle.tl_dom_spec.specs.Tags.{Tag}
+use Rattle.tl_dom_spec.specs.Marks.{marked, unmarked}
 use Rattle.tl_dom_spec.specs.Path as W
 use Rattle.tl_dom_spec.specs.Builder as B
 use Rattle.tl_dom_spec.specs.Formatting as F
@@ -117,7 +118,7 @@ module _ {b : P.Builder} {c : B.Builder} (h : Like b c) where
     search = h.search;
   }
 
-  pub numbering : (n : ℕ) → Like b (record c { starts = n })
+  pub numbering : (n : ℕ) → Like b (record c { marks = n })
   numbering n = record {
     path = h.path;
     active = h.active;
@@ -182,16 +183,16 @@ module _ {b : P.Builder} {c : B.Builder} (h : Like b c) where
     search = h.search;
   }
 
-  character_in : (nodes : P.Nodes) (x : ℕ) → W.joined (nodes_of nodes) (W.and_text W.no_nodes (x ∷ [])) ≡ nodes_of (P.and_character nodes x)
+  character_in : (nodes : P.Nodes) (x : ℕ) → W.joined (nodes_of nodes) (W.and_text W.no_nodes (unmarked (x ∷ []))) ≡ nodes_of (P.and_character nodes x)
   character_in P.no_nodes x = refl
   character_in (P.and_text nodes bytes) x = refl
   character_in (P.and_element nodes own children) x = refl
 
   pub character : (x : ℕ) → Like (P.with_character b x) (B.insert_character x c)
   character x =
-      let e : put_in false (path_of (frames_of b.stack)) (W.and_text W.no_nodes (x ∷ [])) ≡ path_of (frames_of (P.with_character b x).stack) =
+      let e : put_in false (path_of (frames_of b.stack)) (W.and_text W.no_nodes (unmarked (x ∷ []))) ≡ path_of (frames_of (P.with_character b x).stack) =
       ap (λ (nodes : W.Nodes). record (frame_of b.stack.current) { children = nodes } ∷ path_of b.stack.others) (character_in b.stack.current.children x) in
-      with_path (P.with_character b x).stack (put_in c.is_fostering c.path (W.and_text W.no_nodes (x ∷ []))) (put_is (W.and_text W.no_nodes (x ∷ [])) ∙ e)
+      with_path (P.with_character b x).stack (put_in c.is_fostering c.path (W.and_text W.no_nodes (marked c.marks (x ∷ [])))) (put_is (W.and_text W.no_nodes (marked c.marks (x ∷ []))) ∙ e)
 
   -- formatting elements
 

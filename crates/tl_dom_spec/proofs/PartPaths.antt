@@ -10,6 +10,7 @@ use Rattle.tl_tree_spec.specs.Groups as G
 use Rattle.tl_tree_spec.specs.HtmlTreeBuilder as R
 use Rattle.tl_dom_spec.specs.Tags as T
 use Rattle.tl_dom_spec.specs.Tags.{Tag, html_tag}
+use Rattle.tl_dom_spec.specs.Marks.{unmarked}
 use Rattle.tl_dom_spec.specs.Path as W
 use Rattle.tl_dom_spec.proofs.PartNames.{facts, has_twin}
 
@@ -24,7 +25,7 @@ tag_with source own = record (tag_of own) { source = source }
 
 abbrev pub nodes_of : P.Nodes → W.Nodes
 nodes_of P.no_nodes = W.no_nodes
-nodes_of (P.and_text nodes bytes) = W.and_text (nodes_of nodes) bytes
+nodes_of (P.and_text nodes bytes) = W.and_text (nodes_of nodes) (unmarked bytes)
 nodes_of (P.and_element nodes own children) = W.and_element (nodes_of nodes) (tag_of own) (nodes_of children)
 
 abbrev pub frame_of : P.Frame → W.Frame

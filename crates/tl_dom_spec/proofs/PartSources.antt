@@ -1,9 +1,9 @@
--- What a builder holds, without the numbers of start tags: no rule asks for them.
-use Rattle.std.proofs.Common.{◌≡◌, ℕ, suc, Bool, true, false, not, ◌||◌, ◌&&◌, ◌==◌, List, [], ◌∷◌, ◌++◌, map, Option, Some, None, codes, refl, ap, ap₂, sym, ◌∙◌, inl, inr, if◌then◌else◌}
+-- What a builder holds, without the numbers of marks: no rule asks for them.
+use Rattle.std.proofs.Common.{◌≡◌, ℕ, suc, Bool, true, false, not, ◌||◌, ◌&&◌, ◌==◌, List, [], ◌∷◌, map, Option, Some, None, codes, refl, ap, ap₂, sym, ◌∙◌, if◌then◌else◌}
 use Rattle.std.specs.Prelude.{nat_lt, option_map}
 use Rattle.std.specs.Str.{bytes_eq}
-use Rattle.std.proofs.lemmas.Bool.{cases_Bool, cond-false, cond-true}
 use Rattle.tl_dom_spec.specs.Tags.{Tag, is_any}
+use Rattle.tl_dom_spec.specs.Marks.{Marked}
 use Rattle.tl_dom_spec.specs.Path as W
 use Rattle.tl_dom_spec.specs.Path.{Nodes, and_comment, and_doctype, and_element, and_text, no_nodes}
 use Rattle.tl_dom_spec.specs.Builder as B
@@ -14,13 +14,13 @@ use Rattle.tl_dom_spec.specs.Reset as E
 use Rattle.tl_dom_spec.specs.Dispatcher as M
 use Rattle.tl_dom_spec.specs.HtmlForest as T
 use Rattle.tl_dom_spec.specs.HtmlTree as H
-use Rattle.tl_dom_spec.specs.Partial.{unnumbered, without_numbers}
+use Rattle.tl_dom_spec.specs.Partial.{unnumbered, without_number, without_numbers}
 
 abbrev pub bare_nodes : Nodes → Nodes
 bare_nodes no_nodes = no_nodes
-bare_nodes (and_text nodes bytes) = and_text (bare_nodes nodes) bytes
-bare_nodes (and_comment nodes bytes) = and_comment (bare_nodes nodes) bytes
-bare_nodes (and_doctype nodes own) = and_doctype (bare_nodes nodes) own
+bare_nodes (and_text nodes own) = and_text (bare_nodes nodes) (without_number own)
+bare_nodes (and_comment nodes own) = and_comment (bare_nodes nodes) (without_number own)
+bare_nodes (and_doctype nodes own) = and_doctype (bare_nodes nodes) (without_number own)
 bare_nodes (and_element nodes tag children) = and_element (bare_nodes nodes) (unnumbered tag) (bare_nodes children)
 
 abbrev pub bare_frame : W.Frame → W.Frame
@@ -49,7 +49,7 @@ seen test t = test (unnumbered t)
 
 -- Nodes
 
-with_text-bare : (nodes : Nodes) (bytes : List ℕ) → bare_nodes (W.with_text nodes bytes) ≡ W.with_text (bare_nodes nodes) bytes
+with_text-bare : (nodes : Nodes) (bytes : Marked (List ℕ)) → bare_nodes (W.with_text nodes bytes) ≡ W.with_text (bare_nodes nodes) (without_number bytes)
 with_text-bare no_nodes bytes = refl
 with_text-bare (and_text nodes more) bytes = refl
 with_text-bare (and_comment nodes more) bytes = refl
@@ -58,9 +58,9 @@ with_text-bare (and_element nodes tag children) bytes = refl
 
 pub joined-bare : (nodes more : Nodes) → bare_nodes (W.joined nodes more) ≡ W.joined (bare_nodes nodes) (bare_nodes more)
 joined-bare nodes no_nodes = refl
-joined-bare nodes (and_text more bytes) = with_text-bare (W.joined nodes more) bytes ∙ ap (λ x. W.with_text x bytes) (joined-bare nodes more)
-joined-bare nodes (and_comment more bytes) = ap (λ x. and_comment x bytes) (joined-bare nodes more)
-joined-bare nodes (and_doctype more own) = ap (λ x. and_doctype x own) (joined-bare nodes more)
+joined-bare nodes (and_text more bytes) = with_text-bare (W.joined nodes more) bytes ∙ ap (λ x. W.with_text x (without_number bytes)) (joined-bare nodes more)
+joined-bare nodes (and_comment more bytes) = ap (λ x. and_comment x (without_number bytes)) (joined-bare nodes more)
+joined-bare nodes (and_doctype more own) = ap (λ x. and_doctype x (without_number own)) (joined-bare nodes more)
 joined-bare nodes (and_element more tag children) = ap (λ x. and_element x (unnumbered tag) (bare_nodes children)) (joined-bare nodes more)
 
 either-nodes : (v : Bool) (x y : Nodes) → bare_nodes (if v then x else y) ≡ (if v then bare_nodes x else bare_nodes y)
@@ -69,9 +69,9 @@ either-nodes false x y = refl
 
 at_head-bare : (nodes new : Nodes) → bare_nodes (W.at_head nodes new) ≡ W.at_head (bare_nodes nodes) (bare_nodes new)
 at_head-bare no_nodes new = refl
-at_head-bare (and_text nodes bytes) new = ap (λ x. and_text x bytes) (at_head-bare nodes new)
-at_head-bare (and_comment nodes bytes) new = ap (λ x. and_comment x bytes) (at_head-bare nodes new)
-at_head-bare (and_doctype nodes own) new = ap (λ x. and_doctype x own) (at_head-bare nodes new)
+at_head-bare (and_text nodes bytes) new = ap (λ x. and_text x (without_number bytes)) (at_head-bare nodes new)
+at_head-bare (and_comment nodes bytes) new = ap (λ x. and_comment x (without_number bytes)) (at_head-bare nodes new)
+at_head-bare (and_doctype nodes own) new = ap (λ x. and_doctype x (without_number own)) (at_head-bare nodes new)
 at_head-bare (and_element nodes tag children) new =
     either-nodes (is_any (codes "head") tag) (and_element nodes tag (W.joined children new)) (and_element (W.at_head nodes new) tag children)
     ∙ ap₂ (λ (x y : Nodes). if is_any (codes "head") tag then and_element (bare_nodes nodes) (unnumbered tag) x else and_element y (unnumbered tag) (bare_nodes children))

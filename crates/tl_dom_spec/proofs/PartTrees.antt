@@ -18,6 +18,7 @@ use Rattle.tl_dom_spec.specs.Tags.{bare_tag}
 use Rattle.tl_dom_spec.specs.Path as W
 use Rattle.tl_dom_spec.specs.Builder as B
 use Rattle.tl_dom_spec.specs.Body as Body
+use Rattle.tl_dom_spec.specs.Marks.{Marked, marked, unmarked}
 use Rattle.tl_dom_spec.specs.Tables as S
 use Rattle.tl_dom_spec.specs.Dispatcher as M
 use Rattle.tl_dom_spec.specs.Driver.{token_of}
@@ -76,16 +77,24 @@ count_token {b = b} {c = c} h =
     same_goes b (nat_lt taken.excess (M.excess_of taken)) (record taken { excess = M.excess_of taken }) taken
     (counted (suc c.tokens) (M.excess_of taken) h) (counted (suc c.tokens) c.excess h)
 
-started : {b : P.Builder} {c : B.Builder} (n : ℕ) → Goes b c → Goes b (record c { starts = n })
+-- the number of a text that waits is no matter
+numbered_like : (b : P.Builder) (c : B.Builder) (n : ℕ) → Like b (B.switch_to c.original (B.insert_bytes c.pending c)) →
+    Like b (B.switch_to c.original (B.insert_bytes c.pending (record c { marks = n })))
+numbered_like b c n l =
+    O.with_path (O.numbering l n) b.stack (B.insert_bytes c.pending (record c { marks = n })).path
+    (put-bare (B.appropriate_place c) (W.and_text W.no_nodes (marked n c.pending)) c.path
+    ∙ sym (put-bare (B.appropriate_place c) (W.and_text W.no_nodes (marked c.marks c.pending)) c.path) ∙ l.path)
+
+started : {b : P.Builder} {c : B.Builder} (n : ℕ) → Goes b c → Goes b (record c { marks = n })
 started n (inl h) = inl (record { sound = h.sound; like = O.numbering h.like n })
-started n (inr w) = inr (record {
+started {b = b} {c = c} n (inr w) = inr (record {
   first = w.first;
   rest = w.rest;
   pending = w.pending;
   blank = w.blank;
   mode = w.mode;
   outer = w.outer;
-  alike = record { sound = w.alike.sound; like = O.numbering w.alike.like n };
+  alike = record { sound = w.alike.sound; like = numbered_like b c n w.alike.like };
 })
 
 calm_sound : (b : P.Builder) → Sound b → Sound (R.calm b)
@@ -109,25 +118,25 @@ skips_is (inr w) = w.alike.like.skips
 
 -- White space is put in
 
-abbrev put_in : Bool → W.Path → List ℕ → W.Path
+abbrev put_in : Bool → W.Path → Marked (List ℕ) → W.Path
 put_in fostering path bytes = W.put (W.place_in fostering path) (W.and_text W.no_nodes bytes) path
 
 append_again : (xs ys zs : List ℕ) → (xs ++ ys) ++ zs ≡ xs ++ (ys ++ zs)
 append_again [] ys zs = refl
 append_again (x ∷ xs) ys zs = ap (λ r. x ∷ r) (append_again xs ys zs)
 
-text_again : (nodes : W.Nodes) (xs ys : List ℕ) → W.with_text (W.with_text nodes xs) ys ≡ W.with_text nodes (xs ++ ys)
-text_again W.no_nodes xs ys = refl
-text_again (W.and_text nodes bytes) xs ys = ap (W.and_text nodes) (append_again bytes xs ys)
-text_again (W.and_comment nodes bytes) xs ys = refl
-text_again (W.and_doctype nodes own) xs ys = refl
-text_again (W.and_element nodes own children) xs ys = refl
+text_again : (nodes : W.Nodes) (n : ℕ) (xs ys : List ℕ) → W.with_text (W.with_text nodes (marked n xs)) (marked n ys) ≡ W.with_text nodes (marked n (xs ++ ys))
+text_again W.no_nodes n xs ys = refl
+text_again (W.and_text nodes own) n xs ys = ap (λ zs. W.and_text nodes (record own { said = zs })) (append_again own.said xs ys)
+text_again (W.and_comment nodes bytes) n xs ys = refl
+text_again (W.and_doctype nodes own) n xs ys = refl
+text_again (W.and_element nodes own children) n xs ys = refl
 
-put_again : (path : W.Path) (xs ys : List ℕ) → put_in false (put_in false path xs) ys ≡ put_in false path (xs ++ ys)
-put_again [] xs ys = refl
-put_again (f ∷ path) xs ys = ap (λ nodes. record f { children = nodes; waiting = W.no_nodes } ∷ path) (text_again (W.joined f.children f.waiting) xs ys)
+put_again : (path : W.Path) (n : ℕ) (xs ys : List ℕ) → put_in false (put_in false path (marked n xs)) (marked n ys) ≡ put_in false path (marked n (xs ++ ys))
+put_again [] n xs ys = refl
+put_again (f ∷ path) n xs ys = ap (λ nodes. record f { children = nodes; waiting = W.no_nodes } ∷ path) (text_again (W.joined f.children f.waiting) n xs ys)
 
-put_top : (path : W.Path) (xs : List ℕ) → (W.top (put_in false path xs)).tag ≡ (W.top path).tag
+put_top : (path : W.Path) (xs : Marked (List ℕ)) → (W.top (put_in false path xs)).tag ≡ (W.top path).tag
 put_top [] xs = refl
 put_top (f ∷ path) xs = refl
 
@@ -135,9 +144,9 @@ module _ {b : P.Builder} {c : B.Builder} (w : Waits b c) where
   -- the current element, which is one of HTML
   top_is : (W.top (bare_path c.path)).tag ≡ tag_of b.stack.current.element.own
   top_is =
-      sym (put_top (bare_path c.path) c.pending)
-      ∙ ap (λ p. (W.top p).tag) (sym (put-bare W.here (W.and_text W.no_nodes c.pending) c.path))
-      ∙ ap (λ v. (W.top (bare_path (put_in v c.path c.pending))).tag) (sym w.alike.like.fostering)
+      sym (put_top (bare_path c.path) (unmarked c.pending))
+      ∙ ap (λ p. (W.top p).tag) (sym (put-bare W.here (W.and_text W.no_nodes (marked c.marks c.pending)) c.path))
+      ∙ ap (λ v. (W.top (bare_path (put_in v c.path (marked c.marks c.pending)))).tag) (sym w.alike.like.fostering)
       ∙ ap (λ p. (W.top p).tag) w.alike.like.path
 
   content : (token : B.Token) → M.is_html_content (B.adjusted_current_node c) token ≡ true
@@ -176,12 +185,12 @@ module _ {b : P.Builder} {c : B.Builder} (w : Waits b c) where
   abbrev more_pending : ℕ → B.Builder
   more_pending x = record c { pending = c.pending ++ x ∷ [] }
 
-  more_path : (x : ℕ) → put_in c.is_fostering c.path (c.pending ++ x ∷ []) ≡ (B.insert_character x flushed).path
+  more_path : (x : ℕ) → put_in c.is_fostering c.path (marked c.marks (c.pending ++ x ∷ [])) ≡ (B.insert_character x flushed).path
   more_path x =
       let e = w.alike.like.fostering in
-      ap (λ v. put_in v c.path (c.pending ++ x ∷ [])) e
-      ∙ sym (put_again c.path c.pending (x ∷ []))
-      ∙ ap (λ v. put_in v (put_in v c.path c.pending) (x ∷ [])) (sym e)
+      ap (λ v. put_in v c.path (marked c.marks (c.pending ++ x ∷ []))) e
+      ∙ sym (put_again c.path c.marks c.pending (x ∷ []))
+      ∙ ap (λ v. put_in v (put_in v c.path (marked c.marks c.pending)) (marked c.marks (x ∷ []))) (sym e)
 
   more_waits : (x : ℕ) → is_ascii_whitespace x ≡ true → Waits (P.with_character b x) (more_pending x)
   more_waits x k =
@@ -412,11 +421,11 @@ enough_steps c step o = ap (λ n. B.repeated n step o) (sym (enough (2 * length 
 token_goes : (b : P.Builder) (c : B.Builder) → Goes b c → (token : HtmlToken) (after : P.Builder) → R.step b token ≡ Some after → Goes after (M.token_done c (token_of token))
 token_goes b c h token after eq =
     let same : (c.skips && M.is_line_feed (token_of token)) ≡ (b.skips && R.is_line_feed token) = ap₂ (λ v w. v && w) (skips_is h) (line_same token) in
-    started (M.starts_behind c.starts (token_of token)) (count_token (elim (cases_Bool (b.skips && R.is_line_feed token)) [
+    started (M.marks_behind c.marks (token_of token)) (count_token (elim (cases_Bool (b.skips && R.is_line_feed token)) [
       | inl y ↦ subst (Goes after) (sym (cond-true _ _ _ (same ∙ y)))
           (subst (λ d. Goes d (M.calm c)) (some_same (sym (cond-true _ _ _ y) ∙ eq)) (calm h))
-      | inr z ↦ subst (Goes after) (sym (cond-false _ _ _ (same ∙ z) ∙ enough_steps c (M.dispatch (M.numbered c.starts (token_of token))) (B.Again (M.calm c))))
-          (token_taken (R.calm b) (M.calm c) (calm h) token c.starts (2 * length c.path) after (sym (cond-false _ _ _ z) ∙ eq))
+      | inr z ↦ subst (Goes after) (sym (cond-false _ _ _ (same ∙ z) ∙ enough_steps c (M.dispatch (M.numbered c.marks (token_of token))) (B.Again (M.calm c))))
+          (token_taken (R.calm b) (M.calm c) (calm h) token c.marks (2 * length c.path) after (sym (cond-false _ _ _ z) ∙ eq))
     ]))
 
 tokens_go : (tokens : List HtmlToken) (b : P.Builder) (c : B.Builder) → Goes b c → (after : P.Builder) → R.run (Some b) tokens ≡ Some after → Goes after (M.tokens_done c (map token_of tokens))
@@ -496,13 +505,13 @@ counted_alike b c h = by_count (nat_lt c.excess (M.excess_of (record c { tokens 
     by_count true = record { sound = h.sound; like = O.counting h.like c.added (suc c.tokens) (M.excess_of (record c { tokens = suc c.tokens })) }
     by_count false = record { sound = h.sound; like = O.counting h.like c.added (suc c.tokens) c.excess }
 
-started_alike : (b : P.Builder) (c : B.Builder) (n : ℕ) → Alike b c → Alike b (record c { starts = n })
+started_alike : (b : P.Builder) (c : B.Builder) (n : ℕ) → Alike b c → Alike b (record c { marks = n })
 started_alike b c n h = record { sound = h.sound; like = O.numbering h.like n }
 
 pub file_goes : (b : P.Builder) (c : B.Builder) → Goes b c → Alike (R.calm b) (M.token_done c B.end_of_file)
 file_goes b c h =
     let idle : (v : Bool) → (v && false) ≡ false = λ v. by_value v in
-    started_alike (R.calm b) _ c.starts (counted_alike (R.calm b) _ (subst (Alike (R.calm b)) (sym (cond-false _ _ _ (idle c.skips) ∙ enough_steps c (M.dispatch B.end_of_file) (B.Again (M.calm c))))
+    started_alike (R.calm b) _ c.marks (counted_alike (R.calm b) _ (subst (Alike (R.calm b)) (sym (cond-false _ _ _ (idle c.skips) ∙ enough_steps c (M.dispatch B.end_of_file) (B.Again (M.calm c))))
     (file_reaches (R.calm b) (M.calm c) (calm h) (2 * length c.path))))
   where
     by_value : (v : Bool) → (v && false) ≡ false

@@ -4,6 +4,7 @@ use Rattle.std.specs.Char.{is_ascii_whitespace}
 use Rattle.std.specs.List.{list_all}
 use Rattle.std.proofs.lemmas.Bool.{cond_both}
 use Rattle.tl_dom_spec.specs.Tags.{Tag, is_table, is_template}
+use Rattle.tl_dom_spec.specs.Marks.{marked}
 use Rattle.tl_dom_spec.specs.Path.{and_text, is_open_number, new_frame, no_nodes}
 use Rattle.tl_dom_spec.specs.Builder.{Builder, Entry, appropriate_place, formatting, fostering, frameset_not_ok, insert_bytes, insert_character, marker}
 use Rattle.tl_dom_spec.specs.Formatting.{reconstruct_formatting, reopen, reopen_each}
@@ -65,7 +66,7 @@ reopened b (formatting k tag ∷ entries) e =
     ]
 
 inserted : (b c : Builder) (bytes : List ℕ) → Reopened b c → Reopened b (insert_bytes bytes c)
-inserted b c bytes r = (subst (AsMany (tags b.path)) (sym (put-tags (appropriate_place c) (and_text no_nodes bytes) c.path)) r.0, r.1, ((λ q. put-Rooted (appropriate_place c) (and_text no_nodes bytes) c.path (r.2.0 q)), r.2.1, r.2.2))
+inserted b c bytes r = (subst (AsMany (tags b.path)) (sym (put-tags (appropriate_place c) (and_text no_nodes (marked c.marks bytes)) c.path)) r.0, r.1, ((λ q. put-Rooted (appropriate_place c) (and_text no_nodes (marked c.marks bytes)) c.path (r.2.0 q)), r.2.1, r.2.2))
 
 character-reopened : (n : ℕ) (b : Builder) → AreFormatting b.active → Reopened b (body_character n b)
 character-reopened n b e =

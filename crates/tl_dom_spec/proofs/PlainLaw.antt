@@ -28,6 +28,7 @@ at_home flags = record {
   Says = λ _. ⊤;
   Notes = λ _. ⊤;
   Types = λ _. ⊤;
+  Gaps = λ _. ⊤;
   Adds = λ _. ⊤;
   Reads = λ s. s ≡ data_state;
   Around = λ t. is_html t ≡ true;
@@ -102,7 +103,7 @@ names_set flags m (doctype_of own) p = refl
 
 taken-home : (flags : Flags) (b : Builder) (es : List Emission) → Each (IsPlain flags) es → Holds (at_home flags) b → Holds (at_home flags) (taken builder b es)
 taken-home flags b [] p h = h
-taken-home flags b (e ∷ es) p h = taken-home flags (token_done b (emitted_token e)) es p.1 (token-Holds (at_home flags) b (emitted_token e) (plain_emission flags b.starts e p.0) h)
+taken-home flags b (e ∷ es) p h = taken-home flags (token_done b (emitted_token e)) es p.1 (token-Holds (at_home flags) b (emitted_token e) (plain_emission flags b.marks e p.0) tt h)
 
 taken-names : (flags : Flags) (m : Named) (es : List Emission) → Each (IsPlain flags) es → m.sets ≡ data_state → (taken by_name m es).sets ≡ data_state
 taken-names flags m [] p h = h
@@ -188,7 +189,7 @@ read_bare bytes d = bare_tokens (driven_by_names bytes) d ∙ ap (map token_of) 
 -- pages
 
 pub plain_page_tokens : (flags : Flags) (page : List ℕ) → HavePlainNames flags (html_tokens page) → tokens_of_page flags page ≡ map emitted_token (driven_by_names (without_mark page))
-plain_page_tokens flags page p = ap (map emitted_token) (read_plain flags (page_start flags) (without_mark page) (page_start-Holds (at_home flags) flags refl tt) p)
+plain_page_tokens flags page p = ap (map emitted_token) (read_plain flags (page_start flags) (without_mark page) (page_start-Holds (at_home flags) flags refl tt tt) p)
 
 pub plain_page : (flags : Flags) (page : List ℕ) → HavePlainNames flags (html_tokens page) → html_tree_by flags page ≡ page_built flags (map emitted_token (driven_by_names (without_mark page)))
 plain_page flags page p = page_is flags page ∙ ap (page_built flags) (plain_page_tokens flags page p)
@@ -203,7 +204,7 @@ pub plain_fragment_tokens : (flags : Flags) (context : Context) (bytes : List �
     HavePlainNames flags (tokens_in_page bytes) → tokens_of_fragment flags context bytes ≡ map emitted_token (driven_by_names bytes)
 plain_fragment_tokens flags context bytes a s p =
     ap (λ r. map emitted_token (driven_tokens builder (driving (fragment_start flags context) (in_state r)) bytes)) s
-    ∙ ap (map emitted_token) (read_plain flags (fragment_start flags context) bytes (fragment_start-Holds (at_home flags) flags context refl tt a) p)
+    ∙ ap (map emitted_token) (read_plain flags (fragment_start flags context) bytes (fragment_start-Holds (at_home flags) flags context refl tt a tt) p)
 
 pub plain_fragment : (flags : Flags) (context : Context) (bytes : List ℕ) → is_html context.tag ≡ true → context_state flags context.tag ≡ data_state →
     HavePlainNames flags (tokens_in_page bytes) → html_fragment_by flags context bytes ≡ fragment_built flags context (map emitted_token (driven_by_names bytes))

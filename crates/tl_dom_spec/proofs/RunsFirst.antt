@@ -211,6 +211,6 @@ pub first_rest : (c : ℕ) (b : Builder) → (b.skips && (c == 10)) ≡ false �
 first_rest c b s =
     let o : Builder = repeated (bound b) (dispatch (a_character c)) (Again (calm b)) in
     let few : rank b.mode < bound b = omega (arith, rank-most b.mode) in
-    cond_both (b.skips && (c == 10)) (calm b) o (λ x. AtRest (kind_of c) (record (count_token x) { starts = b.starts }))
+    cond_both (b.skips && (c == 10)) (calm b) o (λ x. AtRest (kind_of c) (record (count_token x) { marks = b.marks }))
     (λ y. absurd (true≢false (sym y ∙ s)))
     (λ _. counted_rest (kind_of c) o (repeated_first (kind_of c) c (bound b) (Again (calm b)) (seen c) ((refl, refl), few)))

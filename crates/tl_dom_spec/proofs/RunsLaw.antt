@@ -5,6 +5,7 @@ use Rattle.std.specs.Prelude.{⊤, ◌++◌, ◌&&◌, not}
 use Rattle.std.proofs.lemmas.Bool.{and_from, and_parts, and_left, or_right, cases_Bool, cond-false, cond-true, or_parts, eqb-true}
 use Rattle.tl_html_spec.specs.HtmlTokenizer.{replacement}
 use Rattle.tl_dom_spec.specs.Tags.{is_foster_target, is_template}
+use Rattle.tl_dom_spec.specs.Marks.{marked}
 use Rattle.tl_dom_spec.specs.Path.{Place, and_text, no_nodes, put, top}
 use Rattle.tl_dom_spec.specs.Builder.{Again, Builder, Done, Mode, Outcome, a_character, after_after_body, after_after_frameset, after_body, after_frameset, after_head, before_head, before_html, current_tag, fostering, frameset_not_ok, in_body, in_caption, in_cell, in_column_group, in_frameset, in_head, in_head_noscript, in_row, in_table, in_table_body, in_table_text, in_template, initial, insert_bytes, insert_character, repeated, text_mode}
 use Rattle.tl_dom_spec.specs.Formatting.{reconstruct_formatting}
@@ -86,7 +87,7 @@ fostered : (bytes : List ℕ) (b : Builder) → is_foster_target (top b.path).ta
     fostering false (insert_text bytes (fostering true b)) ≡ insert_text bytes b
 fostered [] b t f = ap (λ v. record b { is_fostering = v }) (sym f)
 fostered (c ∷ bytes) b t f =
-    ap₂ (λ (v : Bool) (p : Place). record b { path = put p (and_text no_nodes (c ∷ bytes)) b.path; is_fostering = v }) (sym f)
+    ap₂ (λ (v : Bool) (p : Place). record b { path = put p (and_text no_nodes (marked b.marks (c ∷ bytes))) b.path; is_fostering = v }) (sym f)
     (cond-false (is_foster_target (top b.path).tag) _ _ t ∙ sym (cond-false (b.is_fostering && is_foster_target (top b.path).tag) _ _ (and_left b.is_fostering _ f)))
 
 table_next : (k : Kind) (c : ℕ) (b : Builder) → content b ≡ true → Of k c → TableRest k b →
@@ -247,12 +248,12 @@ token_next : (k : Kind) (c : ℕ) (b : Builder) → is_of_run b.mode k c ≡ tru
 token_next k c b o r n =
     let steps : Builder = repeated (bound b) (dispatch (a_character c)) (Again (calm b)) in
     let x : Builder = run_dispatched (c ∷ []) b in
-    ap (λ (z : Builder). record (count_token z) { starts = b.starts })
+    ap (λ (z : Builder). record (count_token z) { marks = b.marks })
     (cond-false (b.skips && (c == 10)) (calm b) steps (and_left b.skips (c == 10) r.0.0)
     ∙ ap (λ z. repeated (bound b) (dispatch (a_character c)) (Again z)) (calm_same b r.0)
     ∙ ended (bound b) c b x (omega arith) (dispatch_next k c b o r))
-    ∙ ap (λ (z : Builder). record z { starts = b.starts }) (count_same x (run_Counted (c ∷ []) b n))
-    ∙ ap (λ (m : ℕ). record (count_tokens 1 x) { starts = m }) (sym (run_starts (c ∷ []) b))
+    ∙ ap (λ (z : Builder). record z { marks = b.marks }) (count_same x (run_Counted (c ∷ []) b n))
+    ∙ ap (λ (m : ℕ). record (count_tokens 1 x) { marks = m }) (sym (run_starts (c ∷ []) b))
 
 -- and all of them
 

@@ -3,6 +3,7 @@ use Rattle.std.proofs.Common.{◌≡◌, ℕ, suc, ◌≤◌, ◌==◌, Bool, tr
 use Rattle.std.specs.Char.{is_ascii_whitespace}
 use Rattle.std.specs.Prelude.{◌-◌, ◌*◌, ◌++◌, ◌&&◌, ◌||◌, not, nat_lt}
 use Rattle.std.proofs.lemmas.Bool.{cases_Bool, cond_both, cond-false, cond-true, le-ltb, ltb-false}
+use Rattle.tl_dom_spec.specs.Marks.{marked}
 use Rattle.tl_dom_spec.specs.Path.{and_text, no_nodes, put}
 use Rattle.tl_dom_spec.specs.Builder.{Builder, Mode, after_after_body, after_after_frameset, after_body, after_frameset, after_head, appropriate_place, before_head, before_html, current_tag, in_body, in_caption, in_cell, in_column_group, in_frameset, in_head, in_head_noscript, in_row, in_table, in_table_body, in_table_text, in_template, initial, insert_bytes, text_mode, with_path}
 use Rattle.tl_dom_spec.specs.Tables.{is_text_in_table}
@@ -16,8 +17,8 @@ use Rattle.tl_dom_spec.proofs.RunsFirst.{Counted}
 
 pub bytes_append : (xs ys : List ℕ) (b : Builder) → insert_bytes ys (insert_bytes xs b) ≡ insert_bytes (xs ++ ys) b
 bytes_append xs ys b =
-    ap (λ p. with_path b (put p (and_text no_nodes ys) (insert_bytes xs b).path)) (place_same b.is_fostering (appropriate_place b) (and_text no_nodes xs) b.path)
-    ∙ ap (with_path b) (put_texts (appropriate_place b) xs ys b.path)
+    ap (λ p. with_path b (put p (and_text no_nodes (marked b.marks ys)) (insert_bytes xs b).path)) (place_same b.is_fostering (appropriate_place b) (and_text no_nodes (marked b.marks xs)) b.path)
+    ∙ ap (with_path b) (put_texts (appropriate_place b) b.marks xs ys b.path)
 
 text_append : (xs ys : List ℕ) (b : Builder) → insert_text ys (insert_text xs b) ≡ insert_text (xs ++ ys) b
 text_append [] ys b = refl
@@ -73,7 +74,7 @@ insert_split m d run b e h is =
 
 tag_text : (bytes : List ℕ) (b : Builder) → current_tag (insert_text bytes b) ≡ current_tag b
 tag_text [] b = refl
-tag_text (c ∷ bytes) b = top_tag_same (appropriate_place b) (and_text no_nodes (c ∷ bytes)) b.path
+tag_text (c ∷ bytes) b = top_tag_same (appropriate_place b) (and_text no_nodes (marked b.marks (c ∷ bytes))) b.path
 
 abbrev pub not_null : ℕ → Bool
 not_null c = not (c == 0)
@@ -141,24 +142,24 @@ split d run b = elim (cases_Bool (content b)) [
 
 -- no start tag is counted
 
-text_starts : (bytes : List ℕ) (b : Builder) → (insert_text bytes b).starts ≡ b.starts
+text_starts : (bytes : List ℕ) (b : Builder) → (insert_text bytes b).marks ≡ b.marks
 text_starts [] b = refl
 text_starts (c ∷ bytes) b = refl
 
-table_starts : (bytes : List ℕ) (b : Builder) → (table_run bytes b).starts ≡ b.starts
+table_starts : (bytes : List ℕ) (b : Builder) → (table_run bytes b).marks ≡ b.marks
 table_starts bytes b =
-    cond_both (is_text_in_table (current_tag b)) (waits b bytes) (insert_text bytes b) (λ x. x.starts ≡ b.starts) (λ _. refl) (λ _. text_starts bytes b)
+    cond_both (is_text_in_table (current_tag b)) (waits b bytes) (insert_text bytes b) (λ x. x.marks ≡ b.marks) (λ _. refl) (λ _. text_starts bytes b)
 
-html_starts : (m : Mode) (bytes : List ℕ) (b : Builder) → (html_run m bytes b).starts ≡ b.starts
+html_starts : (m : Mode) (bytes : List ℕ) (b : Builder) → (html_run m bytes b).marks ≡ b.marks
 html_starts in_table bytes b = table_starts bytes b
 html_starts in_table_text bytes b = refl
 html_starts in_table_body bytes b = table_starts bytes b
 html_starts in_row bytes b = table_starts bytes b
 html_starts _ bytes b = text_starts bytes b
 
-pub run_starts : (run : List ℕ) (b : Builder) → (run_dispatched run b).starts ≡ b.starts
+pub run_starts : (run : List ℕ) (b : Builder) → (run_dispatched run b).marks ≡ b.marks
 run_starts run b =
-    cond_both (content b) (html_run b.mode (filter (goes_in b.mode) run) b) (insert_text (with_replacements run) b) (λ x. x.starts ≡ b.starts)
+    cond_both (content b) (html_run b.mode (filter (goes_in b.mode) run) b) (insert_text (with_replacements run) b) (λ x. x.marks ≡ b.marks)
     (λ _. html_starts b.mode (filter (goes_in b.mode) run) b) (λ _. text_starts (with_replacements run) b)
 
 -- it is no matter how many tokens were counted

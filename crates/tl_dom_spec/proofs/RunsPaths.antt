@@ -3,26 +3,28 @@ use Rattle.std.proofs.Common.{◌≡◌, ℕ, ◌==◌, Bool, true, false, List,
 use Rattle.std.specs.Prelude.{Option, Some, None, codes}
 use Rattle.std.proofs.lemmas.Bool.{cases_Bool}
 use Rattle.tl_dom_spec.specs.Tags.{Tag, is_any}
+use Rattle.tl_dom_spec.specs.Marks.{marked}
 use Rattle.tl_dom_spec.specs.Path.{Frame, Nodes, Path, Place, and_comment, and_doctype, and_element, and_text, at_head, behind, caught_up, elements, foster_place, has_number, here, into, into_head, is_open_number, joined, no_frame, no_nodes, on_top, place_in, place_of, put, top, with_nodes, with_text, with_waiting, within}
 use Rattle.tl_dom_spec.specs.Builder.{adjusted_tag, is_only}
 
 -- Two texts at a place
 
-with_texts : (nodes : Nodes) (xs ys : List ℕ) → with_text (with_text nodes xs) ys ≡ with_text nodes (xs ++ ys)
-with_texts no_nodes xs ys = refl
-with_texts (and_text nodes bytes) xs ys = ap (λ zs. and_text nodes zs) (append_assoc bytes xs ys)
-with_texts (and_comment nodes bytes) xs ys = refl
-with_texts (and_doctype nodes own) xs ys = refl
-with_texts (and_element nodes tag children) xs ys = refl
+with_texts : (nodes : Nodes) (n : ℕ) (xs ys : List ℕ) → with_text (with_text nodes (marked n xs)) (marked n ys) ≡ with_text nodes (marked n (xs ++ ys))
+with_texts no_nodes n xs ys = refl
+with_texts (and_text nodes own) n xs ys = ap (λ zs. and_text nodes (record own { said = zs })) (append_assoc own.said xs ys)
+with_texts (and_comment nodes bytes) n xs ys = refl
+with_texts (and_doctype nodes own) n xs ys = refl
+with_texts (and_element nodes tag children) n xs ys = refl
 
-at_heads : (nodes : Nodes) (xs ys : List ℕ) → at_head (at_head nodes (and_text no_nodes xs)) (and_text no_nodes ys) ≡ at_head nodes (and_text no_nodes (xs ++ ys))
-at_heads no_nodes xs ys = refl
-at_heads (and_text nodes bytes) xs ys = ap (λ n. and_text n bytes) (at_heads nodes xs ys)
-at_heads (and_comment nodes bytes) xs ys = ap (λ n. and_comment n bytes) (at_heads nodes xs ys)
-at_heads (and_doctype nodes own) xs ys = ap (λ n. and_doctype n own) (at_heads nodes xs ys)
-at_heads (and_element nodes tag children) xs ys = elim (cases_Bool (is_any (codes "head") tag)) [
-  | inl y ↦ rw y (rw y (ap (λ n. and_element nodes tag n) (with_texts children xs ys)))
-  | inr n ↦ rw n (rw n (ap (λ m. and_element m tag children) (at_heads nodes xs ys)))
+at_heads : (nodes : Nodes) (k : ℕ) (xs ys : List ℕ) →
+    at_head (at_head nodes (and_text no_nodes (marked k xs))) (and_text no_nodes (marked k ys)) ≡ at_head nodes (and_text no_nodes (marked k (xs ++ ys)))
+at_heads no_nodes k xs ys = refl
+at_heads (and_text nodes bytes) k xs ys = ap (λ n. and_text n bytes) (at_heads nodes k xs ys)
+at_heads (and_comment nodes bytes) k xs ys = ap (λ n. and_comment n bytes) (at_heads nodes k xs ys)
+at_heads (and_doctype nodes own) k xs ys = ap (λ n. and_doctype n own) (at_heads nodes k xs ys)
+at_heads (and_element nodes tag children) k xs ys = elim (cases_Bool (is_any (codes "head") tag)) [
+  | inl y ↦ rw y (rw y (ap (λ n. and_element nodes tag n) (with_texts children k xs ys)))
+  | inr n ↦ rw n (rw n (ap (λ m. and_element m tag children) (at_heads nodes k xs ys)))
 ]
 
 map_twice : (f g h : Frame → Frame) → ((x : Frame) → g (f x) ≡ h x) → (path : Path) → map g (map f path) ≡ map h path
@@ -38,19 +40,20 @@ at_twice k c d e f n s = elim (cases_Bool (f.number == k)) [
   | inr z ↦ rw (z, z) refl
 ]
 
-pub put_texts : (place : Place) (xs ys : List ℕ) (path : Path) → put place (and_text no_nodes ys) (put place (and_text no_nodes xs) path) ≡ put place (and_text no_nodes (xs ++ ys)) path
-put_texts here xs ys [] = refl
-put_texts here xs ys (f ∷ path) =
-    ap (λ (n : Nodes). record f { children = n; waiting = no_nodes } ∷ path) (with_texts (joined f.children f.waiting) xs ys)
-put_texts (into k) xs ys path =
-    map_twice _ _ _ (λ f. at_twice k (with_nodes (and_text no_nodes xs)) (with_nodes (and_text no_nodes ys)) (with_nodes (and_text no_nodes (xs ++ ys))) f refl
-    (ap (λ (n : Nodes). record f { children = n }) (with_texts f.children xs ys))) path
-put_texts (behind k) xs ys path =
-    map_twice _ _ _ (λ f. at_twice k (with_waiting (and_text no_nodes xs)) (with_waiting (and_text no_nodes ys)) (with_waiting (and_text no_nodes (xs ++ ys))) f refl
-    (ap (λ (n : Nodes). record f { waiting = n }) (with_texts f.waiting xs ys))) path
-put_texts into_head xs ys [] = refl
-put_texts into_head xs ys (f ∷ path) =
-    ap (λ (n : Nodes). record f { children = n } ∷ path) (at_heads f.children xs ys)
+pub put_texts : (place : Place) (n : ℕ) (xs ys : List ℕ) (path : Path) →
+    put place (and_text no_nodes (marked n ys)) (put place (and_text no_nodes (marked n xs)) path) ≡ put place (and_text no_nodes (marked n (xs ++ ys))) path
+put_texts here n xs ys [] = refl
+put_texts here n xs ys (f ∷ path) =
+    ap (λ (x : Nodes). record f { children = x; waiting = no_nodes } ∷ path) (with_texts (joined f.children f.waiting) n xs ys)
+put_texts (into k) n xs ys path =
+    map_twice _ _ _ (λ f. at_twice k (with_nodes (and_text no_nodes (marked n xs))) (with_nodes (and_text no_nodes (marked n ys))) (with_nodes (and_text no_nodes (marked n (xs ++ ys)))) f refl
+    (ap (λ (x : Nodes). record f { children = x }) (with_texts f.children n xs ys))) path
+put_texts (behind k) n xs ys path =
+    map_twice _ _ _ (λ f. at_twice k (with_waiting (and_text no_nodes (marked n xs))) (with_waiting (and_text no_nodes (marked n ys))) (with_waiting (and_text no_nodes (marked n (xs ++ ys)))) f refl
+    (ap (λ (x : Nodes). record f { waiting = x }) (with_texts f.waiting n xs ys))) path
+put_texts into_head n xs ys [] = refl
+put_texts into_head n xs ys (f ∷ path) =
+    ap (λ (x : Nodes). record f { children = x } ∷ path) (at_heads f.children n xs ys)
 
 -- What is in frames is no matter
 

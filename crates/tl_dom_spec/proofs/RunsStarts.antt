@@ -5,6 +5,7 @@ use Rattle.std.specs.Prelude.{⊤, codes}
 use Rattle.std.proofs.lemmas.Bool.{cases_Bool, cond_both, eq-eqb, eqb-true}
 use Rattle.tl_html_spec.specs.HtmlTokenizer.{data_state}
 use Rattle.tl_dom_spec.specs.Tags.{Tag, is_any}
+use Rattle.tl_dom_spec.specs.Marks.{Marked, marked}
 use Rattle.tl_dom_spec.specs.Path.{Path, Place, and_text, behind, here, into, into_head, is_open_number, new_frame, no_nodes, put, top}
 use Rattle.tl_dom_spec.specs.Builder.{Builder, Entry, Mode, a_character, adjusted_current_node, after_after_body, after_after_frameset, after_body, after_frameset, after_head, appropriate_place, before_head, before_html, current_tag, formatting, in_body, in_caption, in_cell, in_column_group, in_frameset, in_head, in_head_noscript, in_row, in_table, in_table_body, in_table_text, in_template, initial, insert_bytes, marker, pushed_at, text_mode}
 use Rattle.tl_dom_spec.specs.Formatting.{reconstruct_formatting, reopen, reopen_each}
@@ -111,18 +112,18 @@ AtRest k b = Calm b × (((content b ≡ true) × ModeRest b.mode k b) ⊎ ((cont
 -- a text that is put in leaves it so
 
 content_put : (bytes : List ℕ) (b : Builder) → content (insert_bytes bytes b) ≡ content b
-content_put bytes b = ap (λ (t : Tag). is_html_content t (a_character 0)) (adjusted_same b.context (appropriate_place b) (and_text no_nodes bytes) b.path)
+content_put bytes b = ap (λ (t : Tag). is_html_content t (a_character 0)) (adjusted_same b.context (appropriate_place b) (and_text no_nodes (marked b.marks bytes)) b.path)
 
 tag_put : (bytes : List ℕ) (b : Builder) → current_tag (insert_bytes bytes b) ≡ current_tag b
-tag_put bytes b = top_tag_same (appropriate_place b) (and_text no_nodes bytes) b.path
+tag_put bytes b = top_tag_same (appropriate_place b) (and_text no_nodes (marked b.marks bytes)) b.path
 
-rebuilt_put : (entries : List Entry) (place : Place) (bytes : List ℕ) (path : Path) → Rebuilt entries path → Rebuilt entries (put place (and_text no_nodes bytes) path)
+rebuilt_put : (entries : List Entry) (place : Place) (bytes : Marked (List ℕ)) (path : Path) → Rebuilt entries path → Rebuilt entries (put place (and_text no_nodes bytes) path)
 rebuilt_put [] place bytes path r = tt
 rebuilt_put (marker ∷ entries) place bytes path r = tt
 rebuilt_put (formatting k tag ∷ entries) place bytes path r = open_same k place (and_text no_nodes bytes) path ∙ r
 
 pub rebuilt_in : (bytes : List ℕ) (b : Builder) → Rebuilt b.active b.path → Rebuilt b.active (insert_bytes bytes b).path
-rebuilt_in bytes b r = rebuilt_put b.active (appropriate_place b) bytes b.path r
+rebuilt_in bytes b r = rebuilt_put b.active (appropriate_place b) (marked b.marks bytes) b.path r
 
 body_put : (k : Kind) (bytes : List ℕ) (b : Builder) → BodyRest k b → BodyRest k (insert_bytes bytes b)
 body_put null bytes b r = tt

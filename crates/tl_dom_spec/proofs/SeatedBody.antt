@@ -9,6 +9,7 @@ use Rattle.tl_names.specs.Elements.{headings, implied_ends, is_among}
 use Rattle.tl_html_spec.specs.Balanced.{is_one_of, words}
 use Rattle.tl_dom_spec.specs.Tags.{Namespace, Tag, bare_tag, by_space, has_value, is_any, is_button_scope, is_foster_target, is_heading, is_html, is_implied, is_item_bound, is_list_scope, is_math_mark, is_named, is_paragraph, is_scope, is_select, is_special_name, is_svg_mark, no_tag}
 use Rattle.tl_dom_spec.specs.Groups.{Group, a_base, a_frameset, a_link, a_mark, a_noframes, a_noscript, a_row, a_script, a_style, a_table, a_table_body, a_template, a_title, an_anchor, group, the_body, the_head, the_html}
+use Rattle.tl_dom_spec.specs.Marks.{Marked, marked}
 use Rattle.tl_dom_spec.specs.Path.{Frame, Nodes, Path, Place, and_comment, and_element, and_text, behind, caught_up, elements, has_number, has_tag, here, implied_closed, into, into_head, is_open_number, new_frame, no_nodes, on_top, popped_through, settled, settled_at, taken_out, within}
 use Rattle.tl_dom_spec.specs.Builder.{Again, Builder, Done, Entry, Mode, Outcome, add_attributes, after_after_body, after_after_frameset, after_body, after_frameset, after_head, appropriate_place, before_head, before_html, clear_to_last_marker, close_except_for, current_tag, formatting, frameset_not_ok, generate_implied_end_tags, generate_implied_end_tags_except_for, has_in_button_scope, has_in_list_item_scope, has_in_scope, has_template, in_body, in_caption, in_cell, in_column_group, in_frameset, in_head, in_head_noscript, in_row, in_table, in_table_body, in_table_text, in_template, initial, insert_and_pop, insert_bytes, insert_character, insert_comment, insert_element, insert_element_at, insert_implied, insert_marker, is_context, marker, parse_raw_text, parse_raw_text_at, pop_current_node, pop_until, pushed_at, switch_to, text_mode, with_path}
 use Rattle.tl_dom_spec.specs.Formatting.{Listed, listed, reconstruct_formatting, unlisted}
@@ -249,12 +250,12 @@ module _ (low : ℕ) (md : Mode) where
   -- texts, comments
 
   pub bytes-Deep : (bytes : List ℕ) (b : Builder) → D b → D (insert_bytes bytes b)
-  bytes-Deep bytes b d = put-Deep low md (appropriate_place b) (and_text no_nodes bytes) b d (appropriate-Placed low md b d)
+  bytes-Deep bytes b d = put-Deep low md (appropriate_place b) (and_text no_nodes (marked b.marks bytes)) b d (appropriate-Placed low md b d)
 
   pub character-Deep : (c : ℕ) (b : Builder) → D b → D (insert_character c b)
   character-Deep c b d = bytes-Deep (c ∷ []) b d
 
-  pub comment-Deep : (bytes : List ℕ) (b : Builder) → D b → D (insert_comment bytes b)
+  pub comment-Deep : (bytes : Marked (List ℕ)) (b : Builder) → D b → D (insert_comment bytes b)
   comment-Deep bytes b d = put-Deep low md (appropriate_place b) (and_comment no_nodes bytes) b d (appropriate-Placed low md b d)
 
   pub alone-Deep : (t : Tag) (b : Builder) → D b → D (insert_and_pop t b)

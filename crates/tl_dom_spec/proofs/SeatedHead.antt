@@ -10,6 +10,7 @@ use Rattle.std.specs.Char.{is_ascii_whitespace}
 use Rattle.std.proofs.lemmas.Bool.{and_parts, and_right, cond_both}
 use Rattle.tl_html_spec.specs.Balanced.{is_one_of, words}
 use Rattle.tl_dom_spec.specs.Tags.{Tag, bare_tag, is_any, is_foster_target, is_html, is_implied_thoroughly, is_template}
+use Rattle.tl_dom_spec.specs.Marks.{Marked, marked}
 use Rattle.tl_dom_spec.specs.Path.{Frame, Nodes, Path, Place, and_comment, and_element, and_text, at_head, caught_up, elements, foster_place, has_tag, here, into_head, joined, new_frame, no_frame, no_nodes, node_of, on_top, place_in, popped, popped_while, put, settled, settled_at, top, with_nodes, within}
 use Rattle.tl_dom_spec.specs.Builder.{Again, Builder, Done, Mode, Token, a_character, a_comment, a_doctype, a_start, add_attributes, after_head, an_end, end_of_file, frameset_not_ok, has_template, in_body, in_frameset, in_head, in_head_noscript, in_template, insert_and_pop, insert_and_pop_at, insert_character, insert_comment, insert_element, insert_element_at, marker, parse_raw_text, parse_raw_text_at, switch_to, with_path}
 use Rattle.tl_dom_spec.specs.Head.{after_head_step, body_implied, head_closed, in_head_step, is_body_end, noscript_in_head, template_opened}
@@ -81,22 +82,22 @@ head_closed-Ground b r y = headed refl (head-closed b.path r) y
 
 -- behind the head
 
-behind-note : (path : Path) (bytes : List ℕ) → Rest into_head path → Rest into_head (put here (and_comment no_nodes bytes) path)
+behind-note : (path : Path) (bytes : Marked (List ℕ)) → Rest into_head path → Rest into_head (put here (and_comment no_nodes bytes) path)
 behind-note path bytes (behind_head h d r i w e) =
     behind_head (with_nodes (and_comment no_nodes bytes) (caught_up h)) d (record { number = r.number; open_still = r.open_still; tag = r.tag; place = r.place }) (joined-alone h.children h.waiting i w) tt e
 
-behind-blank : (path : Path) (c : ℕ) → is_ascii_whitespace c ≡ true → Rest into_head path → Rest into_head (put here (and_text no_nodes (c ∷ [])) path)
-behind-blank path c s (behind_head h d r i w e) =
-    behind_head (with_nodes (and_text no_nodes (c ∷ [])) (caught_up h)) d (record { number = r.number; open_still = r.open_still; tag = r.tag; place = r.place })
-    (with_text-alone (joined h.children h.waiting) (c ∷ []) (s, tt) (joined-alone h.children h.waiting i w)) tt e
+behind-blank : (path : Path) (n c : ℕ) → is_ascii_whitespace c ≡ true → Rest into_head path → Rest into_head (put here (and_text no_nodes (marked n (c ∷ []))) path)
+behind-blank path n c s (behind_head h d r i w e) =
+    behind_head (with_nodes (and_text no_nodes (marked n (c ∷ []))) (caught_up h)) d (record { number = r.number; open_still = r.open_still; tag = r.tag; place = r.place })
+    (with_text-alone (joined h.children h.waiting) (marked n (c ∷ [])) (s, tt) (joined-alone h.children h.waiting i w)) tt e
 
-pub behind_comment : (b : Builder) (bytes : List ℕ) → b.mode ≡ after_head → Rest into_head b.path → Early b → Ground (insert_comment bytes b)
+pub behind_comment : (b : Builder) (bytes : Marked (List ℕ)) → b.mode ≡ after_head → Rest into_head b.path → Early b → Ground (insert_comment bytes b)
 behind_comment b bytes e r y =
     subst (λ x. Ground (with_path b (put x (and_comment no_nodes bytes) b.path))) (sym (rest_place b.is_fostering into_head b.path r)) (headed e (behind-note b.path bytes r) y)
 
 pub behind_character : (b : Builder) (c : ℕ) → is_ascii_whitespace c ≡ true → b.mode ≡ after_head → Rest into_head b.path → Early b → Ground (insert_character c b)
 behind_character b c s e r y =
-    subst (λ x. Ground (with_path b (put x (and_text no_nodes (c ∷ [])) b.path))) (sym (rest_place b.is_fostering into_head b.path r)) (headed e (behind-blank b.path c s r) y)
+    subst (λ x. Ground (with_path b (put x (and_text no_nodes (marked b.marks (c ∷ []))) b.path))) (sym (rest_place b.is_fostering into_head b.path r)) (headed e (behind-blank b.path b.marks c s r) y)
 
 pub raw_target : (g : Group) (t : Tag) → IsTiedTag g t → is_table_group g ≡ false → is_foster_target t ≡ false
 raw_target g t k n = and_right (is_html t) _ (other_name (codes "table tbody tfoot thead tr") is_table_group g t.name (refl, (refl, (refl, (refl, (refl, tt))))) k.named n)
@@ -204,7 +205,7 @@ noscript-Stage b t e k r y =
     (ground (in_noscript (new_frame b.next t here) (on_top caught_up b.path) refl refl (record { place = refl; open_still = refl; html = k.html; target = raw_target a_noscript t k refl }) (head-caught b.path r) (one_later b y))))
 
 pub in_head_step-Stage : (b : Builder) (token : Token) → b.mode ≡ in_head → IsTied token → Rest here b.path → Early b → StageAfter (in_head_step b token)
-in_head_step-Stage b (a_character c) e k r y = if_after (is_ascii_whitespace c) (Done (insert_character c b)) (Again (head_closed b)) (λ _. ground (head_put b (and_text no_nodes (c ∷ [])) e r y)) (λ _. ground (head_closed-Ground b r y))
+in_head_step-Stage b (a_character c) e k r y = if_after (is_ascii_whitespace c) (Done (insert_character c b)) (Again (head_closed b)) (λ _. ground (head_put b (and_text no_nodes (marked b.marks (c ∷ []))) e r y)) (λ _. ground (head_closed-Ground b r y))
 in_head_step-Stage b (a_comment bytes) e k r y = ground (head_put b (and_comment no_nodes bytes) e r y)
 in_head_step-Stage b (a_doctype own) e k r y = ground (heading e r y)
 in_head_step-Stage b (a_start the_html t closes) e k r y =

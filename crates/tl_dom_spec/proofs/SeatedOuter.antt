@@ -4,6 +4,7 @@ use Rattle.std.specs.Char.{is_ascii_whitespace}
 use Rattle.std.proofs.lemmas.Bool.{and_right, cond_both}
 use Rattle.tl_dom_spec.specs.Tags.{Tag, bare_tag, is_any, is_html}
 use Rattle.tl_dom_spec.specs.Groups.{Group, a_base, a_caption, a_cell, a_column, a_column_group, a_frame, a_frameset, a_link, a_noframes, a_row, a_script, a_style, a_table_body, a_template, a_title, the_body, the_head, the_html}
+use Rattle.tl_dom_spec.specs.Marks.{Marked}
 use Rattle.tl_dom_spec.specs.Path.{Path, behind, elements, into_head, popped, top_settled}
 use Rattle.tl_dom_spec.specs.Builder.{Builder, Done, Mode, Token, a_character, a_comment, a_doctype, a_start, after_after_body, after_after_frameset, after_body, after_frameset, after_head, an_end, appropriate_place, current_tag, end_of_file, frameset_not_ok, in_body, in_frameset, in_template, insert_character, insert_comment_at, insert_element, is_fragment, is_only, pop_current_node, switch_to}
 use Rattle.tl_dom_spec.specs.Head.{after_head_step, body_implied, is_body_end}
@@ -80,7 +81,7 @@ module _ (low : ℕ) where
 
   -- after the body
 
-  pub noted-Deep : (md : Mode) (k : ℕ) (bytes : List ℕ) (b : Builder) → Deep low md b → Deep low md (insert_comment_at (behind k) bytes b)
+  pub noted-Deep : (md : Mode) (k : ℕ) (bytes : Marked (List ℕ)) (b : Builder) → Deep low md b → Deep low md (insert_comment_at (behind k) bytes b)
   noted-Deep md k bytes b d = on_path low md b _ d (note-Seated d.S d.L b.next b.is_frameset_ok k bytes d.held.seats)
 
   back-Stage : (md : Mode) (b : Builder) → Deep low md b → StageAfter (back_in_body b)

@@ -9,7 +9,7 @@ use Rattle.tl_dom_spec.specs.Groups.{the_head, the_html}
 use Rattle.tl_dom_spec.specs.Path.{Frame, Nodes, Path, Place, and_comment, and_doctype, and_element, and_text, at_number, caught_up, document, here, into_head, joined, new_frame, no_nodes, on_top, place_in, put, top, with_nodes}
 use Rattle.tl_dom_spec.specs.Builder.{Again, Builder, Done, Entry, Flags, Mode, Outcome, Token, a_character, a_comment, a_doctype, a_start, add_attributes, add_one, adjusted_current_node, adjusted_tag, after_head, an_end, before_head, before_html, end_of_file, has_template, in_head, in_head_noscript, initial, insert_element_at, repeated, switch_to, text_mode, with_more, with_path}
 use Rattle.tl_dom_spec.specs.Head.{before_head_step, before_html_step, head_implied, head_opened, html_implied, html_opened, html_start, initial_step, is_head_end, without_doctype}
-use Rattle.tl_dom_spec.specs.Dispatcher.{bound, calm, count_token, dispatch, excess_of, foreign_step, html_step, is_html_content, is_line_feed, mode_step, numbered, starts_behind, token_done, tokens_done}
+use Rattle.tl_dom_spec.specs.Dispatcher.{bound, calm, count_token, dispatch, excess_of, foreign_step, html_step, is_html_content, is_line_feed, mode_step, numbered, marks_behind, token_done, tokens_done}
 use Rattle.tl_dom_spec.specs.HtmlTree.{page_start}
 use Rattle.tl_dom_spec.proofs.Allowed.{Each}
 use Rattle.tl_dom_spec.proofs.DispatcherRules.{html_content}
@@ -237,11 +237,11 @@ count-Page b s =
     cond_both (nat_lt taken.excess (excess_of taken)) (record taken { excess = excess_of taken }) taken PageStage
     (λ _. counted-Page b (suc b.tokens) (excess_of taken) s) (λ _. counted-Page b (suc b.tokens) b.excess s)
 
-started-stage : (b : Builder) (n : ℕ) → Stage b → Stage (record b { starts = n })
+started-stage : (b : Builder) (n : ℕ) → Stage b → Stage (record b { marks = n })
 started-stage b n (ground g) = ground g
 started-stage b n (in_text x p e s m h t c w) = in_text x p e s m h t c w
 
-started-Page : (b : Builder) (n : ℕ) → PageStage b → PageStage (record b { starts = n })
+started-Page : (b : Builder) (n : ℕ) → PageStage b → PageStage (record b { marks = n })
 started-Page b n (at_initial d e k h m f) = at_initial d e k h m f
 started-Page b n (at_html d e k h m f) = at_html d e k h m f
 started-Page b n (at_head h d e r c w k m f) = at_head h d e r c w k m f
@@ -257,12 +257,12 @@ numbered-tied n end_of_file i = tt
 
 token-Page : (b : Builder) (token : Token) → IsTied token → PageStage b → PageStage (token_done b token)
 token-Page b token i s =
-    let own : Token = numbered b.starts token in
+    let own : Token = numbered b.marks token in
     let taken : Builder = if b.skips && is_line_feed token then calm b else repeated (bound b) (dispatch own) (Again (calm b)) in
-    started-Page (count_token taken) (starts_behind b.starts token)
+    started-Page (count_token taken) (marks_behind b.marks token)
     (count-Page taken
     (cond_both (b.skips && is_line_feed token) (calm b) (repeated (bound b) (dispatch own) (Again (calm b))) PageStage
-    (λ _. calm-Page b s) (λ _. page-repeated (bound b) own (Again (calm b)) (numbered-tied b.starts token i) (calm-Page b s))))
+    (λ _. calm-Page b s) (λ _. page-repeated (bound b) own (Again (calm b)) (numbered-tied b.marks token i) (calm-Page b s))))
 
 pub tokens-Page : (b : Builder) (tokens : List Token) → Each IsTied tokens → PageStage b → PageStage (tokens_done b tokens)
 tokens-Page b [] i s = s

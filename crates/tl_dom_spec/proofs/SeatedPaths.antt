@@ -7,6 +7,7 @@ use Rattle.std.proofs.lemmas.Bool.{and_from, and_parts, and_right, cases_Bool, c
 use Rattle.std.proofs.lemmas.Bool.Decides.{nat_tests}
 use Rattle.tl_html_spec.specs.Balanced.{is_one_of, words}
 use Rattle.tl_dom_spec.specs.Tags.{Attribute, Tag, by_space, is_any, is_foster_target, is_html, is_table, is_template}
+use Rattle.tl_dom_spec.specs.Marks.{Marked}
 use Rattle.tl_dom_spec.specs.Path.{Frame, Nodes, Path, Place, and_comment, and_doctype, and_element, and_text, at_head, at_number, behind, caught_up, elements, foster_place, has_tag, here, into, into_head, joined, new_frame, no_nodes, node_of, on_top, place_in, place_of, popped, popped_through, popped_to, put, settled, settled_at, settled_while, top, top_settled, with_nodes, with_text, with_waiting, within}
 use Rattle.tl_dom_spec.specs.Builder.{pushed_at, with_more}
 use Rattle.tl_dom_spec.specs.Lawful.{IsIn}
@@ -45,7 +46,7 @@ AreComments (and_element nodes tag children) = ⊥
 -- `head`, with comments before it, and with comments and white space alone behind it
 abbrev pub HeadAlone : Nodes → Type 0
 HeadAlone no_nodes = ⊥
-HeadAlone (and_text nodes bytes) = IsBlank bytes × HeadAlone nodes
+HeadAlone (and_text nodes own) = IsBlank own.said × HeadAlone nodes
 HeadAlone (and_comment nodes bytes) = HeadAlone nodes
 HeadAlone (and_doctype nodes own) = ⊥
 HeadAlone (and_element nodes tag children) = IsHead tag × AreComments nodes
@@ -71,9 +72,9 @@ body_no_head t e =
     and_right (is_html t) (is_one_of (codes "head") t.name)
     (any_word (λ name. is_one_of (codes "head") name ≡ false) (words (codes "body frameset")) t.name (refl, (refl, tt)) (and_parts (is_html t) (is_one_of (codes "body frameset") t.name) e).1)
 
-pub with_text-alone : (nodes : Nodes) (bytes : List ℕ) → IsBlank bytes → HeadAlone nodes → HeadAlone (with_text nodes bytes)
+pub with_text-alone : (nodes : Nodes) (bytes : Marked (List ℕ)) → IsBlank bytes.said → HeadAlone nodes → HeadAlone (with_text nodes bytes)
 with_text-alone no_nodes bytes b h = absurd h
-with_text-alone (and_text nodes own) bytes b h = (each_append (λ c. is_ascii_whitespace c ≡ true) own bytes h.0 b, h.1)
+with_text-alone (and_text nodes own) bytes b h = (each_append (λ c. is_ascii_whitespace c ≡ true) own.said bytes.said h.0 b, h.1)
 with_text-alone (and_comment nodes own) bytes b h = (b, h)
 with_text-alone (and_doctype nodes own) bytes b h = absurd h
 with_text-alone (and_element nodes tag children) bytes b h = (b, h)
@@ -85,7 +86,7 @@ joined-alone nodes (and_comment more bytes) h k = joined-alone nodes more h k
 joined-alone nodes (and_doctype more own) h k = absurd k
 joined-alone nodes (and_element more tag children) h k = absurd k
 
-with_text-body : (nodes : Nodes) (bytes : List ℕ) → BodyNext nodes → BodyNext (with_text nodes bytes)
+with_text-body : (nodes : Nodes) (bytes : Marked (List ℕ)) → BodyNext nodes → BodyNext (with_text nodes bytes)
 with_text-body no_nodes bytes h = h
 with_text-body (and_text nodes own) bytes h = h
 with_text-body (and_comment nodes own) bytes h = h
@@ -369,13 +370,13 @@ module _ (S L : List ℕ) (N : ℕ) (ok : Bool) where
 
   -- a comment may wait behind any frame
 
-  abbrev note : List ℕ → Nodes
+  abbrev note : Marked (List ℕ) → Nodes
   note bytes = and_comment no_nodes bytes
 
-  noted-comments : (k : ℕ) (bytes : List ℕ) (h : Frame) → AreComments h.waiting → AreComments (chosen k (with_waiting (note bytes)) h).waiting
+  noted-comments : (k : ℕ) (bytes : Marked (List ℕ)) (h : Frame) → AreComments h.waiting → AreComments (chosen k (with_waiting (note bytes)) h).waiting
   noted-comments k bytes h w = cond_both (h.number == k) (with_waiting (note bytes) h) h (λ x. AreComments x.waiting) (λ _. w) (λ _. w)
 
-  document-noted : (k : ℕ) (bytes : List ℕ) (d : Frame) → IsDocument d → IsDocument (chosen k (with_waiting (note bytes)) d)
+  document-noted : (k : ℕ) (bytes : Marked (List ℕ)) (d : Frame) → IsDocument d → IsDocument (chosen k (with_waiting (note bytes)) d)
   document-noted k bytes d e =
       let g = chosen-grows k (with_waiting (note bytes)) (with_waiting-Grows (note bytes)) in
       record {
@@ -385,7 +386,7 @@ module _ (S L : List ℕ) (N : ℕ) (ok : Bool) where
         notes = noted-comments k bytes d e.notes;
       }
 
-  pub rest-noted : {place : Place} {rest : Path} (k : ℕ) (bytes : List ℕ) → Rest place rest → Rest place (at_number k (with_waiting (note bytes)) rest)
+  pub rest-noted : {place : Place} {rest : Path} (k : ℕ) (bytes : Marked (List ℕ)) → Rest place rest → Rest place (at_number k (with_waiting (note bytes)) rest)
   rest-noted k bytes (under_head f h d q r i w e) =
       let c : Frame → Frame = with_waiting (note bytes) in
       under_head (chosen k c f) (chosen k c h) (chosen k c d) (head-grown (chosen k c) f (chosen-grows k c (with_waiting-Grows (note bytes))) q) (waiting-root k (note bytes) h r)
@@ -394,7 +395,7 @@ module _ (S L : List ℕ) (N : ℕ) (ok : Bool) where
       let c : Frame → Frame = with_waiting (note bytes) in
       behind_head (chosen k c h) (chosen k c d) (waiting-root k (note bytes) h r) (waiting-children HeadAlone k (note bytes) h i) (noted-comments k bytes h w) (document-noted k bytes d e)
 
-  pub note-Seated : {low m : ℕ} {tg : Tag} {path : Path} (k : ℕ) (bytes : List ℕ) → Seated low m tg path → Seated low m tg (at_number k (with_waiting (note bytes)) path)
+  pub note-Seated : {low m : ℕ} {tg : Tag} {path : Path} (k : ℕ) (bytes : Marked (List ℕ)) → Seated low m tg path → Seated low m tg (at_number k (with_waiting (note bytes)) path)
   note-Seated k bytes (high t rest b i r) =
       let y = chosen-grows k (with_waiting (note bytes)) (with_waiting-Grows (note bytes)) in
       high (chosen k (with_waiting (note bytes)) t) (at_number k (with_waiting (note bytes)) rest) (bar-grown (chosen k (with_waiting (note bytes))) t y b) i

@@ -4,6 +4,7 @@ use Rattle.std.specs.Char.{is_ascii_whitespace}
 use Rattle.std.proofs.lemmas.Bool.{and_right, cond_both}
 use Rattle.tl_dom_spec.specs.Tags.{Attribute, Tag, is_foster_target, is_html}
 use Rattle.tl_dom_spec.specs.Groups.{Group, a_break, a_link, a_noframes, a_noscript, a_style, the_head, the_html}
+use Rattle.tl_dom_spec.specs.Marks.{marked}
 use Rattle.tl_dom_spec.specs.Path.{Frame, Nodes, Path, and_comment, and_element, and_text, at_number, caught_up, foster_place, here, new_frame, no_nodes, node_of, on_top, place_in, popped, put, settled, settled_at, top, top_settled, with_nodes}
 use Rattle.tl_dom_spec.specs.Builder.{Again, Builder, Done, Token, a_character, a_comment, a_doctype, a_start, add_attributes, an_end, appropriate_place, end_of_file, has_template, in_head_noscript, insert_and_pop_at, insert_character, parse_raw_text_at, text_mode, with_more, with_path}
 use Rattle.tl_dom_spec.specs.Head.{html_start, in_head_noscript_step, noscript_closed, text_closed, text_step}
@@ -37,7 +38,7 @@ module _ (b : Builder) (x : Frame) (p : Path) (e : b.path ≡ x ∷ p) (s : IsSo
       (sym (ap popped e ∙ ap settled (some_settled x p s))) (w (node_of x))
 
   pub text_step-Stage : (token : Token) → StageAfter (text_step b token)
-  text_step-Stage (a_character k) = text_put (and_text no_nodes (k ∷ []))
+  text_step-Stage (a_character k) = text_put (and_text no_nodes (marked b.marks (k ∷ [])))
   text_step-Stage (a_start g own closes) = ground text_closed-Ground
   text_step-Stage (an_end g name) = ground text_closed-Ground
   text_step-Stage (a_comment bytes) = ground text_closed-Ground
@@ -93,7 +94,7 @@ module _ (b : Builder) (f : Frame) (rest : Path) (e : b.path ≡ f ∷ rest) (m 
 
   pub in_head_noscript_step-Stage : (token : Token) → IsTied token → StageAfter (in_head_noscript_step b token)
   in_head_noscript_step-Stage (a_character k) i =
-      if_after (is_ascii_whitespace k) (Done (insert_character k b)) (Again (noscript_closed b)) (λ _. ground (noscript_put (and_text no_nodes (k ∷ [])))) (λ _. ground noscript_closed-Ground)
+      if_after (is_ascii_whitespace k) (Done (insert_character k b)) (Again (noscript_closed b)) (λ _. ground (noscript_put (and_text no_nodes (marked b.marks (k ∷ []))))) (λ _. ground noscript_closed-Ground)
   in_head_noscript_step-Stage (a_comment bytes) i = ground (noscript_put (and_comment no_nodes bytes))
   in_head_noscript_step-Stage (a_doctype own) i = noscript_stays
   in_head_noscript_step-Stage (a_start the_html t closes) i = noscript_html t

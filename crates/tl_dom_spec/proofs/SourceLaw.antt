@@ -23,8 +23,9 @@ from tokens = record {
   Opens = IsTagOf tokens;
   Stands = IsTagOf tokens;
   Says = λ c. IsIn (a_character c) tokens ⊎ IsIn c replacement;
-  Notes = λ bytes. IsIn (a_comment bytes) tokens;
+  Notes = λ own. IsIn (a_comment own) tokens;
   Types = λ own. IsIn (a_doctype own) tokens;
+  Gaps = λ _. ⊤;
   Adds = λ more. (g : Group) × (t : Tag) × (closes : Bool) × (adds_attributes g ≡ true) × IsIn (a_start g t closes) tokens × (t.attributes ≡ more);
   Reads = λ _. ⊤;
   Around = λ _. ⊤;
@@ -98,17 +99,17 @@ characters_from P (c ∷ bytes) h = (h.0, characters_from P bytes h.1)
 pub sources_of : (tokens : List Token) (trees : HtmlForest) → Follows (from tokens) trees → ComeFrom tokens trees
 sources_of tokens trees f = record {
   elements = elements-weaken (Owned (from tokens)) (λ tag below. IsTagOf tokens tag) trees (some_tag tokens) f.elements;
-  texts = texts-weaken (IsText (from tokens)) (EachCharacter (from tokens).Says) trees (λ bytes t. characters_from (from tokens).Says bytes t.1) f.texts;
+  texts = texts-weaken (IsText (from tokens)) (λ own. EachCharacter (from tokens).Says own.said) trees (λ own t. characters_from (from tokens).Says own.said t.0.1) f.texts;
   comments = f.comments;
   doctypes = f.doctypes;
 }
 
 pub built_sources : (flags : Flags) (tokens : List Token) → ComeFrom (all_numbered 0 tokens) (page_built flags tokens).trees
-built_sources flags tokens = sources_of (all_numbered 0 tokens) (page_built flags tokens).trees (page-Follows (from (all_numbered 0 tokens)) flags tokens tt tt (tokens_from (all_numbered 0 tokens)))
+built_sources flags tokens = sources_of (all_numbered 0 tokens) (page_built flags tokens).trees (page-Follows (from (all_numbered 0 tokens)) flags tokens tt tt (tokens_from (all_numbered 0 tokens)) (λ _ _. tt))
 
 pub built_fragment_sources : (flags : Flags) (context : Context) (tokens : List Token) → ComeFrom (all_numbered 0 tokens) (fragment_built flags context tokens)
 built_fragment_sources flags context tokens =
-    sources_of (all_numbered 0 tokens) (fragment_built flags context tokens) (fragment-Follows (from (all_numbered 0 tokens)) flags context tokens tt tt tt (tokens_from (all_numbered 0 tokens)))
+    sources_of (all_numbered 0 tokens) (fragment_built flags context tokens) (fragment-Follows (from (all_numbered 0 tokens)) flags context tokens tt tt tt (tokens_from (all_numbered 0 tokens)) (λ _ _. tt))
 
 pub page_sources : (flags : Flags) (page : List ℕ) → ComeFrom (all_numbered 0 (tokens_of_page flags page)) (html_tree_by flags page).trees
 page_sources flags page =

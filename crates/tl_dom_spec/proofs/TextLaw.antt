@@ -4,6 +4,7 @@ use Rattle.std.specs.Prelude.{⊤}
 use Rattle.tl_html_spec.specs.Sound.{IsSome}
 use Rattle.tl_dom_spec.specs.Tags.{Tag}
 use Rattle.tl_dom_spec.specs.Groups.{Group}
+use Rattle.tl_dom_spec.specs.Marks.{Marked}
 use Rattle.tl_dom_spec.specs.Builder.{Flags, Token, a_character, a_comment, a_doctype, a_start, an_end, end_of_file}
 use Rattle.tl_dom_spec.specs.HtmlForest.{HtmlForest, comment, doctype, element, no_trees, text}
 use Rattle.tl_dom_spec.specs.HtmlTree.{Context, html_fragment_by, html_tree_by}
@@ -21,7 +22,7 @@ elements-weaken P Q (comment bytes more) w h = elements-weaken P Q more w h
 elements-weaken P Q (doctype own more) w h = elements-weaken P Q more w h
 elements-weaken P Q (element tag below more) w h = (w tag below h.0, elements-weaken P Q below w h.1, elements-weaken P Q more w h.2)
 
-pub texts-weaken : (P Q : List ℕ → Type 0) (trees : HtmlForest) → ((bytes : List ℕ) → P bytes → Q bytes) → EachText P trees → EachText Q trees
+pub texts-weaken : (P Q : Marked (List ℕ) → Type 0) (trees : HtmlForest) → ((bytes : Marked (List ℕ)) → P bytes → Q bytes) → EachText P trees → EachText Q trees
 texts-weaken P Q no_trees w h = tt
 texts-weaken P Q (text bytes more) w h = (w bytes h.0, texts-weaken P Q more w h.1)
 texts-weaken P Q (comment bytes more) w h = texts-weaken P Q more w h
@@ -37,6 +38,7 @@ anything = record {
   Says = λ _. ⊤;
   Notes = λ _. ⊤;
   Types = λ _. ⊤;
+  Gaps = λ _. ⊤;
   Adds = λ _. ⊤;
   Reads = λ _. ⊤;
   Around = λ _. ⊤;
@@ -88,14 +90,14 @@ any_tokens [] = tt
 any_tokens (token ∷ tokens) = (any_token token, any_tokens tokens)
 
 pub texts_of : (trees : HtmlForest) → Follows anything trees → AreTexts trees
-texts_of trees f = (texts-weaken (IsText anything) IsSome trees (λ bytes t. t.0 tt) f.texts, f.apart tt)
+texts_of trees f = (texts-weaken (IsText anything) (λ own. IsSome own.said) trees (λ own t. t.0.0 tt) f.texts, f.apart tt)
 
 pub built_texts : (flags : Flags) (tokens : List Token) → AreTexts (page_built flags tokens).trees
-built_texts flags tokens = texts_of (page_built flags tokens).trees (page-Follows anything flags tokens tt tt (any_tokens (all_numbered 0 tokens)))
+built_texts flags tokens = texts_of (page_built flags tokens).trees (page-Follows anything flags tokens tt tt (any_tokens (all_numbered 0 tokens)) (λ _ _. tt))
 
 pub built_fragment_texts : (flags : Flags) (context : Context) (tokens : List Token) → AreTexts (fragment_built flags context tokens)
 built_fragment_texts flags context tokens =
-    texts_of (fragment_built flags context tokens) (fragment-Follows anything flags context tokens tt tt tt (any_tokens (all_numbered 0 tokens)))
+    texts_of (fragment_built flags context tokens) (fragment-Follows anything flags context tokens tt tt tt (any_tokens (all_numbered 0 tokens)) (λ _ _. tt))
 
 pub page_texts : (flags : Flags) (page : List ℕ) → AreTexts (html_tree_by flags page).trees
 page_texts flags page =

@@ -1,5 +1,5 @@
 -- The trees of any tokens: in them all is allowed that the tokens give. And pages and fragments are built of tokens.
-use Rattle.std.proofs.Common.{List, [], ap, false, inl, inr, map, refl, sym, true, true≢false, ℕ, ◌∙◌, ◌∷◌, ◌≡◌, ◌⊎◌}
+use Rattle.std.proofs.Common.{List, [], ap, false, inl, inr, le_refl, map, refl, subst, sym, true, true≢false, ℕ, ◌∙◌, ◌∷◌, ◌≡◌, ◌≤◌, ◌⊎◌}
 use Rattle.tl_html_spec.specs.Driven.{Emission, driven_tokens, driving, in_state, taken}
 use Rattle.tl_html_spec.specs.HtmlTokenizer.{data_state, without_mark}
 use Rattle.tl_html_spec.proofs.Driving.{text_driven}
@@ -15,7 +15,7 @@ use Rattle.tl_dom_spec.specs.Lawful.{AreApart, EachComment, EachDoctype, EachEle
 use Rattle.tl_dom_spec.proofs.Allowed.{Allowed, Each, Good, IsText, ends_with_text, joined-Good}
 use Rattle.tl_dom_spec.proofs.Kept.{Holds}
 use Rattle.tl_dom_spec.proofs.HeadRules.{Allows}
-use Rattle.tl_dom_spec.proofs.DispatcherRules.{fragment_start-Holds, page_start-Holds, token-Holds, tokens-Holds}
+use Rattle.tl_dom_spec.proofs.DispatcherRules.{after-least, fragment_start-Holds, marks_after, marks_are, page_start-Holds, token-Holds, tokens-Holds}
 
 -- what holds of trees in which all is allowed
 abbrev pub Owned : Allowed → Tag → HtmlForest → Type 0
@@ -83,15 +83,17 @@ children-Follows R b h =
 
 -- of tokens
 
-pub page-Follows : (R : Allowed) (flags : Flags) (tokens : List Token) → R.Scripts flags.is_scripting → R.Exceeds 0 → Each (Allows R) (all_numbered 0 tokens) → Follows R (page_built flags tokens).trees
-page-Follows R flags tokens s x k =
+pub page-Follows : (R : Allowed) (flags : Flags) (tokens : List Token) → R.Scripts flags.is_scripting → R.Exceeds 0 → Each (Allows R) (all_numbered 0 tokens) → ((n : ℕ) → n ≤ marks_after 0 tokens → R.Gaps n) → Follows R (page_built flags tokens).trees
+page-Follows R flags tokens s x k g =
     document-Follows R (token_done (tokens_done (page_start flags) tokens) end_of_file)
-    (token-Holds R (tokens_done (page_start flags) tokens) end_of_file tt (tokens-Holds R (page_start flags) tokens k (page_start-Holds R flags s x)))
+    (token-Holds R (tokens_done (page_start flags) tokens) end_of_file tt (subst R.Gaps (sym (marks_are (page_start flags) tokens)) (g (marks_after 0 tokens) (le_refl (marks_after 0 tokens))))
+    (tokens-Holds R (page_start flags) tokens k g (page_start-Holds R flags s x (g 0 (after-least 0 tokens)))))
 
-pub fragment-Follows : (R : Allowed) (flags : Flags) (context : Context) (tokens : List Token) → R.Scripts flags.is_scripting → R.Exceeds 0 → R.Around context.tag → Each (Allows R) (all_numbered 0 tokens) → Follows R (fragment_built flags context tokens)
-fragment-Follows R flags context tokens s x a k =
+pub fragment-Follows : (R : Allowed) (flags : Flags) (context : Context) (tokens : List Token) → R.Scripts flags.is_scripting → R.Exceeds 0 → R.Around context.tag → Each (Allows R) (all_numbered 0 tokens) → ((n : ℕ) → n ≤ marks_after 0 tokens → R.Gaps n) → Follows R (fragment_built flags context tokens)
+fragment-Follows R flags context tokens s x a k g =
     children-Follows R (token_done (tokens_done (fragment_start flags context) tokens) end_of_file)
-    (token-Holds R (tokens_done (fragment_start flags context) tokens) end_of_file tt (tokens-Holds R (fragment_start flags context) tokens k (fragment_start-Holds R flags context s x a)))
+    (token-Holds R (tokens_done (fragment_start flags context) tokens) end_of_file tt (subst R.Gaps (sym (marks_are (fragment_start flags context) tokens)) (g (marks_after 0 tokens) (le_refl (marks_after 0 tokens))))
+    (tokens-Holds R (fragment_start flags context) tokens k g (fragment_start-Holds R flags context s x a (g 0 (after-least 0 tokens)))))
 
 -- a page is built of its tokens, and a fragment too
 

@@ -1,5 +1,5 @@
 -- Nothing stands below a void element.
-use Rattle.std.proofs.Common.{List, [], codes, false, inl, inr, map, refl, subst, sym, true, true≢false, ℕ, ◌∙◌, ◌∷◌, ◌≡◌, Some, suc}
+use Rattle.std.proofs.Common.{List, [], codes, false, inl, inr, map, refl, subst, sym, true, true≢false, ℕ, ◌∙◌, ◌∷◌, ◌≡◌, Some}
 use Rattle.std.specs.Prelude.{⊤}
 use Rattle.std.proofs.lemmas.Bool.{and_left, and_parts, and_right, cases_Bool}
 use Rattle.tl_html_spec.specs.Driven.{Emission, doctype_of, driven_tokens, driving, in_state, plain}
@@ -18,7 +18,7 @@ use Rattle.tl_dom_spec.proofs.Allowed.{Allowed, Each}
 use Rattle.tl_dom_spec.proofs.HeadRules.{Allows, Starts, is_alone}
 use Rattle.tl_dom_spec.proofs.TreesFollow.{Follows, Owned, fragment-Follows, fragment_is, page-Follows, page_is}
 use Rattle.tl_dom_spec.proofs.TextLaw.{elements-weaken}
-use Rattle.tl_dom_spec.specs.Dispatcher.{numbered, starts_behind}
+use Rattle.tl_dom_spec.specs.Dispatcher.{numbered, marks_behind}
 
 abbrev IsAlone : List ℕ → Type 0
 IsAlone name = is_alone (group name) ≡ true
@@ -50,6 +50,7 @@ voids = record {
   Says = λ _. ⊤;
   Notes = λ _. ⊤;
   Types = λ _. ⊤;
+  Gaps = λ _. ⊤;
   Adds = λ _. ⊤;
   Reads = λ _. ⊤;
   Around = λ _. ⊤;
@@ -97,7 +98,7 @@ void_token n DoctypeToken = tt
 
 pub void_tokens : (n : ℕ) (tokens : List HtmlToken) → Each (Allows voids) (all_numbered n (map token_of tokens))
 void_tokens n [] = tt
-void_tokens n (token ∷ tokens) = (void_token n token, void_tokens (starts_behind n (token_of token)) tokens)
+void_tokens n (token ∷ tokens) = (void_token n token, void_tokens (marks_behind n (token_of token)) tokens)
 
 void_emission : (n : ℕ) (e : Emission) → Allows voids (numbered n (emitted_token e))
 void_emission n (plain token) = void_token n token
@@ -105,7 +106,7 @@ void_emission n (doctype_of own) = tt
 
 void_emissions : (n : ℕ) (emissions : List Emission) → Each (Allows voids) (all_numbered n (map emitted_token emissions))
 void_emissions n [] = tt
-void_emissions n (e ∷ emissions) = (void_emission n e, void_emissions (starts_behind n (emitted_token e)) emissions)
+void_emissions n (e ∷ emissions) = (void_emission n e, void_emissions (marks_behind n (emitted_token e)) emissions)
 
 nothing_below : (tag : Tag) (below : HtmlForest) → Owned voids tag below → is_void tag ≡ true → below ≡ no_trees
 nothing_below tag below (inl o) v = absurd (true≢false (sym v ∙ o))
@@ -115,21 +116,21 @@ pub voids_of : (trees : HtmlForest) → Follows voids trees → AreVoidEmpty tre
 voids_of trees f = elements-weaken (Owned voids) (λ tag below. is_void tag ≡ true → below ≡ no_trees) trees nothing_below f.elements
 
 pub built_voids : (flags : Flags) (tokens : List HtmlToken) → AreVoidEmpty (tree_of_tokens flags tokens).trees
-built_voids flags tokens = voids_of (tree_of_tokens flags tokens).trees (page-Follows voids flags (map token_of tokens) tt tt (void_tokens 0 tokens))
+built_voids flags tokens = voids_of (tree_of_tokens flags tokens).trees (page-Follows voids flags (map token_of tokens) tt tt (void_tokens 0 tokens) (λ _ _. tt))
 
 pub built_fragment_voids : (flags : Flags) (context : Context) (tokens : List HtmlToken) → AreVoidEmpty (fragment_of_tokens flags context tokens)
 built_fragment_voids flags context tokens =
-    voids_of (fragment_of_tokens flags context tokens) (fragment-Follows voids flags context (map token_of tokens) tt tt tt (void_tokens 0 tokens))
+    voids_of (fragment_of_tokens flags context tokens) (fragment-Follows voids flags context (map token_of tokens) tt tt tt (void_tokens 0 tokens) (λ _ _. tt))
 
 pub page_voids : (flags : Flags) (page : List ℕ) → AreVoidEmpty (html_tree_by flags page).trees
 page_voids flags page =
     let emissions : List Emission = driven_tokens builder (driving (page_start flags) (in_state data_state)) (without_mark page) in
     subst (λ d. AreVoidEmpty d.trees) (sym (page_is flags page))
-    (voids_of (page_built flags (tokens_of_page flags page)).trees (page-Follows voids flags (tokens_of_page flags page) tt tt (void_emissions 0 emissions)))
+    (voids_of (page_built flags (tokens_of_page flags page)).trees (page-Follows voids flags (tokens_of_page flags page) tt tt (void_emissions 0 emissions) (λ _ _. tt)))
 
 pub fragment_voids : (flags : Flags) (context : Context) (bytes : List ℕ) → AreVoidEmpty (html_fragment_by flags context bytes)
 fragment_voids flags context bytes =
     let emissions : List Emission = driven_tokens builder (driving (fragment_start flags context) (in_state (context_state flags context.tag))) bytes in
     subst AreVoidEmpty (sym (fragment_is flags context bytes))
     (voids_of (fragment_built flags context (tokens_of_fragment flags context bytes))
-    (fragment-Follows voids flags context (tokens_of_fragment flags context bytes) tt tt tt (void_emissions 0 emissions)))
+    (fragment-Follows voids flags context (tokens_of_fragment flags context bytes) tt tt tt (void_emissions 0 emissions) (λ _ _. tt)))

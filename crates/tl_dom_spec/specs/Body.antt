@@ -283,7 +283,7 @@ file_ended b = if has_template b then Again (close_template b) else Done b
 
 abbrev pub in_body_step : Builder → Token → Outcome
 in_body_step b (a_character c) = Done (body_character c b)
-in_body_step b (a_comment bytes) = Done (insert_comment bytes b)
+in_body_step b (a_comment own) = Done (insert_comment own b)
 in_body_step b (a_doctype own) = Done b
 in_body_step b (a_start g t closes) = body_start b g t closes
 in_body_step b (an_end g name) = body_end b g name

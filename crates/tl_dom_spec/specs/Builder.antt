@@ -5,6 +5,7 @@ use Rattle.tl_html_spec.specs.HtmlTokenizer.{State, after_start, raw, rawtext}
 use Rattle.tl_dom_spec.specs.Tags.{Attribute, Tag, bare_tag, is_button_scope, is_list_scope, is_scope, is_table_scope, is_template, no_tag, with_missing}
 use Rattle.tl_html_spec.specs.Doctypes.{Doctype}
 use Rattle.tl_dom_spec.specs.Groups.{Group}
+use Rattle.tl_dom_spec.specs.Marks.{Marked, marked}
 use Rattle.tl_dom_spec.specs.Path.{Frame, Path, Place, and_comment, and_element, and_text, at_number, caught_up, elements, has_open, has_tag, has_within, here, implied_closed, new_frame, no_nodes, on_top, place_in, popped, popped_through, popped_to, put, top}
 
 -- the insertion modes (13.2.4.1)
@@ -37,8 +38,8 @@ pub data Token : Type 0 where
   -- with the group of its name, and whether it has the self-closing flag
   a_start : Group → Tag → Bool → Token
   an_end : Group → List ℕ → Token
-  a_comment : List ℕ → Token
-  a_doctype : Doctype → Token
+  a_comment : Marked (List ℕ) → Token
+  a_doctype : Marked Doctype → Token
   end_of_file : Token
 
 -- an entry of the list of active formatting elements (13.2.4.3), of which the latest comes first
@@ -84,8 +85,8 @@ pub record Builder : Type 0 where
   pub added : ℕ
   -- by how many these were more than four for each token, where that was most
   pub excess : ℕ
-  -- how many start tags were taken: the number of the next one
-  pub starts : ℕ
+  -- how many marks were taken: the number of the next one
+  pub marks : ℕ
   pub flags : Flags
 
 -- a token is done with, or is reprocessed
@@ -232,18 +233,19 @@ add_one b = record b { added = suc b.added }
 abbrev pub insert_implied : List ℕ → Builder → Builder
 insert_implied name b = add_one (insert_element (bare_tag name) b)
 
--- bytes are inserted; a document takes no text
+-- bytes are inserted, which stand behind the marks so far; a document takes no text
 abbrev pub insert_bytes : List ℕ → Builder → Builder
-insert_bytes bytes b = with_path b (put (appropriate_place b) (and_text no_nodes bytes) b.path)
+insert_bytes bytes b =
+    with_path b (put (appropriate_place b) (and_text no_nodes (marked b.marks bytes)) b.path)
 
 abbrev pub insert_character : ℕ → Builder → Builder
 insert_character c b = insert_bytes (c ∷ []) b
 
-abbrev pub insert_comment_at : Place → List ℕ → Builder → Builder
-insert_comment_at place bytes b = with_path b (put place (and_comment no_nodes bytes) b.path)
+abbrev pub insert_comment_at : Place → Marked (List ℕ) → Builder → Builder
+insert_comment_at place own b = with_path b (put place (and_comment no_nodes own) b.path)
 
-abbrev pub insert_comment : List ℕ → Builder → Builder
-insert_comment bytes b = insert_comment_at (appropriate_place b) bytes b
+abbrev pub insert_comment : Marked (List ℕ) → Builder → Builder
+insert_comment own b = insert_comment_at (appropriate_place b) own b
 
 -- attributes that an open element has not yet are added to it
 abbrev pub with_more : List Attribute → Tag → Tag

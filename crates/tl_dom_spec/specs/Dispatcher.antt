@@ -102,7 +102,7 @@ foreign_end b g name = foreign_end_at (found_in name (elements b.path)) b g name
 
 abbrev pub foreign_step : Builder → Token → Outcome
 foreign_step b (a_character c) = Done (foreign_character c b)
-foreign_step b (a_comment bytes) = Done (insert_comment bytes b)
+foreign_step b (a_comment own) = Done (insert_comment own b)
 foreign_step b (a_doctype own) = Done b
 foreign_step b (a_start g t closes) = foreign_start b g t closes
 foreign_step b (an_end g name) = foreign_end b g name
@@ -154,22 +154,25 @@ count_token b =
     if nat_lt taken.excess (excess_of taken) then record taken { excess = excess_of taken }
     else taken
 
--- a start tag with its number among those of the page
+-- a token with its number among the marks of the page
 abbrev pub numbered : ℕ → Token → Token
 numbered n (a_start g t closes) = a_start g (record t { source = Some n }) closes
+numbered n (a_comment own) = a_comment (record own { source = n })
+numbered n (a_doctype own) = a_doctype (record own { source = n })
 numbered n token = token
 
--- the number of the next start tag behind a token
-abbrev pub starts_behind : ℕ → Token → ℕ
-starts_behind n (a_start g t closes) = suc n
-starts_behind n token = n
+-- the number of the next mark behind a token: all are marks but characters and the end of the page
+abbrev pub marks_behind : ℕ → Token → ℕ
+marks_behind n (a_character c) = n
+marks_behind n end_of_file = n
+marks_behind n token = suc n
 
 abbrev pub token_done : Builder → Token → Builder
 token_done b token =
     record (count_token
     (if b.skips && is_line_feed token then calm b
-    else repeated (bound b) (dispatch (numbered b.starts token)) (Again (calm b)))) {
-      starts = starts_behind b.starts token;
+    else repeated (bound b) (dispatch (numbered b.marks token)) (Again (calm b)))) {
+      marks = marks_behind b.marks token;
     }
 
 abbrev pub tokens_done : Builder → List Token → Builder

@@ -5,6 +5,7 @@ use Rattle.tl_html_spec.specs.Doctypes.{Doctype}
 use Rattle.tl_html_spec.specs.Driven.{DrivenState, Driver, Emission, doctype_of, driven, plain}
 use Rattle.tl_dom_spec.specs.Tags.{html_tag, is_html}
 use Rattle.tl_dom_spec.specs.Groups.{group}
+use Rattle.tl_dom_spec.specs.Marks.{unmarked}
 use Rattle.tl_dom_spec.specs.Builder.{Builder, Token, a_character, a_comment, a_doctype, a_start, adjusted_current_node, an_end, end_of_file}
 use Rattle.tl_dom_spec.specs.Dispatcher.{token_done}
 
@@ -22,12 +23,12 @@ abbrev pub token_of : HtmlToken → Token
 token_of (Character c) = a_character c
 token_of (StartTag name attributes closes) = a_start (group name) (html_tag name attributes) closes
 token_of (EndTag name) = an_end (group name) name
-token_of (CommentToken bytes) = a_comment bytes
-token_of DoctypeToken = a_doctype html_doctype
+token_of (CommentToken bytes) = a_comment (unmarked bytes)
+token_of DoctypeToken = a_doctype (unmarked html_doctype)
 
 abbrev pub emitted_token : Emission → Token
 emitted_token (plain token) = token_of token
-emitted_token (doctype_of d) = a_doctype d
+emitted_token (doctype_of d) = a_doctype (unmarked d)
 
 -- a start tag's rule sets the state, and each other token the data state
 abbrev pub builder : Driver Builder

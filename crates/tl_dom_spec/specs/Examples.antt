@@ -1,6 +1,6 @@
 -- Words for worked rows. No contract cites them.
 use Prim.Native.String.{String}
-use Rattle.std.specs.Prelude.{Bool, List, None, Option, [], codes, if◌then◌else◌, map, true, ℕ, ◌++◌, ◌∷◌}
+use Rattle.std.specs.Prelude.{Bool, List, None, Option, Some, [], codes, if◌then◌else◌, map, true, ℕ, ◌++◌, ◌∷◌}
 use Rattle.tl_html_spec.specs.HtmlTokenizer.{data_state, html_tokens}
 use Rattle.tl_dom_spec.specs.Tags.{Attribute, AttributeSpace, Namespace, html_space, is_named, math_space, no_space, svg_space, xlink_space, xml_space, xmlns_space}
 use Rattle.tl_html_spec.specs.Doctypes.{or_empty}
@@ -42,10 +42,11 @@ below is_contents (b ∷ bytes) =
 -- trees on one line: `<name key=value>[children]`, texts between quotes
 abbrev pub shown : HtmlForest → List ℕ
 shown no_trees = []
-shown (text bytes more) = codes "'" ++ bytes ++ codes "'" ++ shown more
-shown (comment bytes more) = codes "<!--" ++ bytes ++ codes "-->" ++ shown more
+shown (text own more) = codes "'" ++ own.said ++ codes "'" ++ shown more
+shown (comment own more) = codes "<!--" ++ own.said ++ codes "-->" ++ shown more
 shown (doctype own more) =
-    codes "<!" ++ own.name ++ ids_shown own.public_id own.system_id ++ codes ">" ++ shown more
+    codes "<!" ++ own.said.name ++ ids_shown own.said.public_id own.said.system_id
+    ++ codes ">" ++ shown more
 shown (element tag children more) =
     codes "<" ++ space_shown tag.space ++ tag.name ++ attributes_shown tag.attributes
     ++ codes ">" ++ below (has_contents tag) (shown children) ++ shown more
@@ -157,12 +158,12 @@ run_from b (c ∷ run) = run_taken run (token_done b (a_character c))
 abbrev pub at_once : String → String → List ℕ
 at_once front run = ended (run_from (read_front front) (codes run))
 
--- the numbers of the start tags that elements have, in the order of the page
+-- the numbers of marks that nodes have, in the order of the page
 abbrev pub numbers_of : HtmlForest → List (Option ℕ)
 numbers_of no_trees = []
-numbers_of (text bytes more) = numbers_of more
-numbers_of (comment bytes more) = numbers_of more
-numbers_of (doctype own more) = numbers_of more
+numbers_of (text own more) = Some own.source ∷ numbers_of more
+numbers_of (comment own more) = Some own.source ∷ numbers_of more
+numbers_of (doctype own more) = Some own.source ∷ numbers_of more
 numbers_of (element tag below more) = tag.source ∷ (numbers_of below ++ numbers_of more)
 
 abbrev pub numbers : String → List (Option ℕ)

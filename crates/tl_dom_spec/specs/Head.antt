@@ -32,11 +32,11 @@ without_doctype b = Again (switch_to before_html (record b { is_quirks = true })
 abbrev pub initial_step : Builder → Token → Outcome
 initial_step b (a_character c) =
     if is_ascii_whitespace c then Done b else without_doctype b
-initial_step b (a_comment bytes) = Done (insert_comment bytes b)
+initial_step b (a_comment own) = Done (insert_comment own b)
 initial_step b (a_doctype own) =
     Done (record b {
       path = put here (and_doctype no_nodes own) b.path;
-      is_quirks = is_quirky own;
+      is_quirks = is_quirky own.said;
       mode = before_html;
     })
 initial_step b _ = without_doctype b
@@ -55,7 +55,7 @@ before_html_start b g t = html_implied b
 
 abbrev pub before_html_step : Builder → Token → Outcome
 before_html_step b (a_character c) = if is_ascii_whitespace c then Done b else html_implied b
-before_html_step b (a_comment bytes) = Done (insert_comment bytes b)
+before_html_step b (a_comment own) = Done (insert_comment own b)
 before_html_step b (a_doctype own) = Done b
 before_html_step b (a_start g t closes) = before_html_start b g t
 before_html_step b (an_end g name) = if is_head_end g then html_implied b else Done b
@@ -76,7 +76,7 @@ before_head_start b g t = head_implied b
 
 abbrev pub before_head_step : Builder → Token → Outcome
 before_head_step b (a_character c) = if is_ascii_whitespace c then Done b else head_implied b
-before_head_step b (a_comment bytes) = Done (insert_comment bytes b)
+before_head_step b (a_comment own) = Done (insert_comment own b)
 before_head_step b (a_doctype own) = Done b
 before_head_step b (a_start g t closes) = before_head_start b g t
 before_head_step b (an_end g name) = if is_head_end g then head_implied b else Done b
@@ -126,7 +126,7 @@ in_head_end b g = if is_body_end g then Again (head_closed b) else Done b
 abbrev pub in_head_step : Builder → Token → Outcome
 in_head_step b (a_character c) =
     if is_ascii_whitespace c then Done (insert_character c b) else Again (head_closed b)
-in_head_step b (a_comment bytes) = Done (insert_comment bytes b)
+in_head_step b (a_comment own) = Done (insert_comment own b)
 in_head_step b (a_doctype own) = Done b
 in_head_step b (a_start g t closes) = in_head_start b g t
 in_head_step b (an_end g name) = in_head_end b g
@@ -154,7 +154,7 @@ noscript_end b g = Done b
 abbrev pub in_head_noscript_step : Builder → Token → Outcome
 in_head_noscript_step b (a_character c) =
     if is_ascii_whitespace c then Done (insert_character c b) else Again (noscript_closed b)
-in_head_noscript_step b (a_comment bytes) = Done (insert_comment bytes b)
+in_head_noscript_step b (a_comment own) = Done (insert_comment own b)
 in_head_noscript_step b (a_doctype own) = Done b
 in_head_noscript_step b (a_start g t closes) = noscript_start b g t
 in_head_noscript_step b (an_end g name) = noscript_end b g
@@ -179,7 +179,7 @@ after_head_end b g = if is_body_end g then body_implied b else Done b
 abbrev pub after_head_step : Builder → Token → Outcome
 after_head_step b (a_character c) =
     if is_ascii_whitespace c then Done (insert_character c b) else body_implied b
-after_head_step b (a_comment bytes) = Done (insert_comment bytes b)
+after_head_step b (a_comment own) = Done (insert_comment own b)
 after_head_step b (a_doctype own) = Done b
 after_head_step b (a_start g t closes) = after_head_start b g t
 after_head_step b (an_end g name) = after_head_end b g

@@ -52,7 +52,7 @@ page_start flags = record {
   tokens = 0;
   added = 0;
   excess = 0;
-  starts = 0;
+  marks = 0;
   flags = flags;
 }
 

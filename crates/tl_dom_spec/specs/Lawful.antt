@@ -1,5 +1,5 @@
 -- Laws of trees that are built of tokens: what holds of each element, text and comment in them.
-use Rattle.std.specs.Prelude.{Bool, List, None, Option, Some, [], codes, false, map, not, suc, true, zero, ℕ, ◌<◌, ◌||◌, ◌∷◌, ◌≡◌, ◌⊎◌, ⊤}
+use Rattle.std.specs.Prelude.{Bool, List, None, Option, Some, [], codes, false, map, not, suc, true, zero, ℕ, ◌<◌, ◌≤◌, ◌||◌, ◌∷◌, ◌≡◌, ◌⊎◌, ⊤}
 use Rattle.tl_names.specs.Elements.{is_among, rcdata_names}
 use Rattle.tl_html_spec.specs.Balanced.{is_one_of}
 use Rattle.tl_html_spec.specs.HtmlTokenizer.{HtmlToken, StartTag, data_state, replacement, without_mark}
@@ -7,11 +7,12 @@ use Rattle.tl_html_spec.specs.Sound.{IsSome}
 use Rattle.tl_html_spec.specs.Doctypes.{Doctype}
 use Rattle.tl_html_spec.specs.Driven.{Emission, by_name, doctype_of, driven_tokens, driving, in_state, no_tokens}
 use Rattle.tl_dom_spec.specs.Tags.{Namespace, Tag, bare_tag, by_space, is_any, is_table, is_template, math_space, svg_space}
+use Rattle.tl_dom_spec.specs.Marks.{Marked}
 use Rattle.tl_dom_spec.specs.Path.{Path}
 use Rattle.tl_dom_spec.specs.Groups.{Group, a_math, an_image, an_svg, the_body, the_html}
 use Rattle.tl_dom_spec.specs.Builder.{Again, Builder, Done, Entry, Flags, Mode, Outcome, Token, a_character, a_comment, a_doctype, a_start, end_of_file, formatting, in_body, in_column_group, in_row, in_table, in_table_body, in_table_text, in_template, marker, text_mode, with_more}
 use Rattle.tl_dom_spec.specs.Adjusted.{foreign_name, foreign_tag}
-use Rattle.tl_dom_spec.specs.Dispatcher.{bound, calm, dispatch, numbered, starts_behind, token_done, tokens_done}
+use Rattle.tl_dom_spec.specs.Dispatcher.{bound, calm, dispatch, marks_behind, numbered, token_done, tokens_done}
 use Rattle.tl_dom_spec.specs.Driver.{builder, emitted_token, html_doctype}
 use Rattle.tl_dom_spec.specs.HtmlForest.{HtmlForest, comment, doctype, element, no_trees, text}
 use Rattle.tl_dom_spec.specs.HtmlTree.{Context, Document, children_of, context_state, document_of, fragment_start, is_raw_in, page_start}
@@ -26,23 +27,23 @@ EachElement P (element tag below more) =
     P tag below × EachElement P below × EachElement P more
 
 -- what holds of each text
-abbrev pub EachText : (List ℕ → Type 0) → HtmlForest → Type 0
+abbrev pub EachText : (Marked (List ℕ) → Type 0) → HtmlForest → Type 0
 EachText P no_trees = ⊤
-EachText P (text bytes more) = P bytes × EachText P more
+EachText P (text own more) = P own × EachText P more
 EachText P (comment bytes more) = EachText P more
 EachText P (doctype own more) = EachText P more
 EachText P (element tag below more) = EachText P below × EachText P more
 
 -- what holds of each comment
-abbrev pub EachComment : (List ℕ → Type 0) → HtmlForest → Type 0
+abbrev pub EachComment : (Marked (List ℕ) → Type 0) → HtmlForest → Type 0
 EachComment P no_trees = ⊤
 EachComment P (text bytes more) = EachComment P more
-EachComment P (comment bytes more) = P bytes × EachComment P more
+EachComment P (comment own more) = P own × EachComment P more
 EachComment P (doctype own more) = EachComment P more
 EachComment P (element tag below more) = EachComment P below × EachComment P more
 
 -- what holds of each doctype
-abbrev pub EachDoctype : (Doctype → Type 0) → HtmlForest → Type 0
+abbrev pub EachDoctype : (Marked Doctype → Type 0) → HtmlForest → Type 0
 EachDoctype P no_trees = ⊤
 EachDoctype P (text bytes more) = EachDoctype P more
 EachDoctype P (comment bytes more) = EachDoctype P more
@@ -70,7 +71,7 @@ AreApart (element tag below more) = AreApart below × AreApart more
 
 -- no text is empty, or stands right beside another one
 abbrev pub AreTexts : HtmlForest → Type 0
-AreTexts trees = EachText IsSome trees × AreApart trees
+AreTexts trees = EachText (λ own. IsSome own.said) trees × AreApart trees
 
 -- Void elements
 
@@ -98,11 +99,11 @@ HaveNames (token ∷ tokens) = HaveNames tokens
 
 -- Where it all comes from
 
--- tokens whose start tags are numbered from a number on
+-- tokens whose marks are numbered from a number on
 abbrev pub all_numbered : ℕ → List Token → List Token
 all_numbered n [] = []
 all_numbered n (token ∷ tokens) =
-    numbered n token ∷ all_numbered (starts_behind n token) tokens
+    numbered n token ∷ all_numbered (marks_behind n token) tokens
 
 abbrev pub IsIn : {X : Type 0} → X → List X → Type 0
 IsIn x [] = ⊥
@@ -147,17 +148,24 @@ pub data IsTagOf (tokens : List Token) : Tag → Type 0 where
 -- character of a text is one of a character token, or of U+FFFD
 pub record ComeFrom (tokens : List Token) (trees : HtmlForest) : Type 0 where
   pub elements : EachElement (λ tag below. IsTagOf tokens tag) trees
-  pub texts : EachText (EachCharacter (λ c. IsIn (a_character c) tokens ⊎ IsIn c replacement)) trees
-  pub comments : EachComment (λ bytes. IsIn (a_comment bytes) tokens) trees
+  pub texts : EachText
+      (λ own. EachCharacter (λ c. IsIn (a_character c) tokens ⊎ IsIn c replacement) own.said)
+      trees
+  pub comments : EachComment (λ own. IsIn (a_comment own) tokens) trees
   pub doctypes : EachDoctype (λ own. IsIn (a_doctype own) tokens) trees
 
--- where an element has the number of a start tag, it is one of so many
+-- where an element has the number of a mark, it is one of so many
 abbrev pub IsBelow : ℕ → Option ℕ → Type 0
 IsBelow count None = ⊤
 IsBelow count (Some n) = n < count
 
-abbrev pub AreNumberedBelow : ℕ → HtmlForest → Type 0
-AreNumberedBelow count trees = EachElement (λ tag below. IsBelow count tag.source) trees
+-- the marks that elements, comments and doctypes come from are some of so many, and no more stand
+-- before a text
+pub record AreNumberedBelow (count : ℕ) (trees : HtmlForest) : Type 0 where
+  pub elements : EachElement (λ tag below. IsBelow count tag.source) trees
+  pub texts : EachText (λ own. own.source ≤ count) trees
+  pub comments : EachComment (λ own. own.source < count) trees
+  pub doctypes : EachDoctype (λ own. own.source < count) trees
 
 -- Tokens of pages: as tree construction drives the tokenizer
 

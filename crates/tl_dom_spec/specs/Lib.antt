@@ -1,6 +1,7 @@
 pub mod Tags
 pub mod Quirks
 pub mod Groups
+pub mod Marks
 pub mod Path
 pub mod Builder
 pub mod Formatting

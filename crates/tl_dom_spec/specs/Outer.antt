@@ -60,7 +60,7 @@ after_body_end b g = back_in_body b
 abbrev pub after_body_step : Builder → Token → Outcome
 after_body_step b (a_character c) =
     if is_ascii_whitespace c then in_body_step b (a_character c) else back_in_body b
-after_body_step b (a_comment bytes) = Done (insert_comment_at (behind 1) bytes b)
+after_body_step b (a_comment own) = Done (insert_comment_at (behind 1) own b)
 after_body_step b (a_doctype own) = Done b
 after_body_step b (a_start g t closes) = after_body_start b g t
 after_body_step b (an_end g name) = after_body_end b g
@@ -88,7 +88,7 @@ frameset_end b g = b
 abbrev pub in_frameset_step : Builder → Token → Outcome
 in_frameset_step b (a_character c) =
     Done (if is_ascii_whitespace c then insert_character c b else b)
-in_frameset_step b (a_comment bytes) = Done (insert_comment bytes b)
+in_frameset_step b (a_comment own) = Done (insert_comment own b)
 in_frameset_step b (a_doctype own) = Done b
 in_frameset_step b (a_start g t closes) = frameset_start b g t
 in_frameset_step b (an_end g name) = Done (frameset_end b g)
@@ -108,7 +108,7 @@ after_frameset_end b g = b
 abbrev pub after_frameset_step : Builder → Token → Outcome
 after_frameset_step b (a_character c) =
     Done (if is_ascii_whitespace c then insert_character c b else b)
-after_frameset_step b (a_comment bytes) = Done (insert_comment bytes b)
+after_frameset_step b (a_comment own) = Done (insert_comment own b)
 after_frameset_step b (a_doctype own) = Done b
 after_frameset_step b (a_start g t closes) = after_frameset_start b g t
 after_frameset_step b (an_end g name) = Done (after_frameset_end b g)
@@ -119,7 +119,7 @@ after_frameset_step b end_of_file = Done b
 abbrev pub after_after_body_step : Builder → Token → Outcome
 after_after_body_step b (a_character c) =
     if is_ascii_whitespace c then in_body_step b (a_character c) else back_in_body b
-after_after_body_step b (a_comment bytes) = Done (insert_comment_at (behind 0) bytes b)
+after_after_body_step b (a_comment own) = Done (insert_comment_at (behind 0) own b)
 after_after_body_step b (a_doctype own) = Done b
 after_after_body_step b (a_start g t closes) = after_body_start b g t
 after_after_body_step b (an_end g name) = back_in_body b
@@ -130,7 +130,7 @@ after_after_body_step b end_of_file = Done b
 abbrev pub after_after_frameset_step : Builder → Token → Outcome
 after_after_frameset_step b (a_character c) =
     if is_ascii_whitespace c then in_body_step b (a_character c) else Done b
-after_after_frameset_step b (a_comment bytes) = Done (insert_comment_at (behind 0) bytes b)
+after_after_frameset_step b (a_comment own) = Done (insert_comment_at (behind 0) own b)
 after_after_frameset_step b (a_doctype own) = Done b
 after_after_frameset_step b (a_start g t closes) = after_frameset_start b g t
 after_after_frameset_step b (an_end g name) = Done b

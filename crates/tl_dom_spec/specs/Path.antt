@@ -2,15 +2,16 @@
 -- last. Nothing is taken out of the tree: an element goes to its place once its end is settled,
 -- with all that is in it, and what the standard moves is moved by taking frames of the path apart.
 use Rattle.std.specs.Prelude.{Bool, List, [], codes, false, filter, if◌then◌else◌, map, not, true, ℕ, ◌&&◌, ◌++◌, ◌==◌, ◌||◌, ◌∷◌}
+use Rattle.tl_dom_spec.specs.Marks.{Marked}
 use Rattle.tl_dom_spec.specs.Tags.{Tag, bare_tag, is_any, is_foster_target, is_implied, is_table, is_template}
 use Rattle.tl_html_spec.specs.Doctypes.{Doctype}
 
 -- nodes in a row, the last one outside
 pub data Nodes : Type 0 where
   no_nodes : Nodes
-  and_text : Nodes → List ℕ → Nodes
-  and_comment : Nodes → List ℕ → Nodes
-  and_doctype : Nodes → Doctype → Nodes
+  and_text : Nodes → Marked (List ℕ) → Nodes
+  and_comment : Nodes → Marked (List ℕ) → Nodes
+  and_doctype : Nodes → Marked Doctype → Nodes
   and_element : Nodes → Tag → Nodes → Nodes
 
 -- where a node goes
@@ -58,23 +59,24 @@ document = record (new_frame 0 (bare_tag []) here) { is_open = false }
 
 -- Nodes
 
--- a text beside another one is part of it
-abbrev pub with_text : Nodes → List ℕ → Nodes
-with_text (and_text nodes bytes) more = and_text nodes (bytes ++ more)
+-- a text beside another one is part of it, and stands where that one begins
+abbrev pub with_text : Nodes → Marked (List ℕ) → Nodes
+with_text (and_text nodes own) more =
+    and_text nodes (record own { said = own.said ++ more.said })
 with_text nodes more = and_text nodes more
 
 abbrev pub joined : Nodes → Nodes → Nodes
 joined nodes no_nodes = nodes
-joined nodes (and_text more bytes) = with_text (joined nodes more) bytes
-joined nodes (and_comment more bytes) = and_comment (joined nodes more) bytes
+joined nodes (and_text more own) = with_text (joined nodes more) own
+joined nodes (and_comment more own) = and_comment (joined nodes more) own
 joined nodes (and_doctype more own) = and_doctype (joined nodes more) own
 joined nodes (and_element more tag children) = and_element (joined nodes more) tag children
 
 -- at the end of the `head` among these
 abbrev pub at_head : Nodes → Nodes → Nodes
 at_head no_nodes new = no_nodes
-at_head (and_text nodes bytes) new = and_text (at_head nodes new) bytes
-at_head (and_comment nodes bytes) new = and_comment (at_head nodes new) bytes
+at_head (and_text nodes own) new = and_text (at_head nodes new) own
+at_head (and_comment nodes own) new = and_comment (at_head nodes new) own
 at_head (and_doctype nodes own) new = and_doctype (at_head nodes new) own
 at_head (and_element nodes tag children) new =
     if is_any (codes "head") tag then and_element nodes tag (joined children new)

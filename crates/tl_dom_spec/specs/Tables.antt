@@ -97,7 +97,7 @@ table_character b c =
 
 abbrev pub in_table_step : Builder → Token → Outcome
 in_table_step b (a_character c) = table_character b c
-in_table_step b (a_comment bytes) = Done (insert_comment bytes b)
+in_table_step b (a_comment own) = Done (insert_comment own b)
 in_table_step b (a_doctype own) = Done b
 in_table_step b (a_start g t closes) = table_start b g t closes
 in_table_step b (an_end g name) = table_end b g name
@@ -189,7 +189,7 @@ column_end b g = after_column_group b
 abbrev pub in_column_group_step : Builder → Token → Outcome
 in_column_group_step b (a_character c) =
     if is_ascii_whitespace c then Done (insert_character c b) else after_column_group b
-in_column_group_step b (a_comment bytes) = Done (insert_comment bytes b)
+in_column_group_step b (a_comment own) = Done (insert_comment own b)
 in_column_group_step b (a_doctype own) = Done b
 in_column_group_step b (a_start g t closes) = column_start b g t
 in_column_group_step b (an_end g name) = column_end b g

@@ -30,8 +30,8 @@ pub record Tag : Type 0 where
   pub space : Namespace
   pub name : List ℕ
   pub attributes : List Attribute
-  -- the number of its start tag among the start tags of the page, from 0 on; none where no start
-  -- tag stands for it. What is made anew of a tag (by the adoption agency, where formatting
+  -- the number of its start tag among the marks of the page, from 0 on; none where no start tag
+  -- stands for it. What is made anew of a tag (by the adoption agency, where formatting
   -- elements are reconstructed) has the number of that tag. No rule asks for it
   pub source : Option ℕ
 

@@ -75,7 +75,8 @@ pub fn void_elements_are_empty()
 {}
 
 /// Each element, text, comment and doctype comes from a token, or is an element that is put in. The
-/// start tags have their numbers, from 0 on: so an element with a number is of the tag of that one.
+/// marks have their numbers, from 0 on: so an element with a number is of the tag of that one, and
+/// a comment or a doctype is that one.
 #[tactic(auto, using(crate::proofs::SourceLaw::page_sources, crate::proofs::SourceLaw::fragment_sources, crate::proofs::SourceLaw::built_sources, crate::proofs::SourceLaw::built_fragment_sources))]
 pub fn trees_come_from_tokens()
     ensures page { (flags : Flags) (page : List ℕ) →
@@ -89,13 +90,14 @@ pub fn trees_come_from_tokens()
         ComeFrom (all_numbered 0 tokens) (fragment_built flags context tokens) }
 {}
 
-/// An element that has the number of a start tag has that of one that was taken.
+/// The number of a mark that an element, a comment or a doctype has is that of one that was taken;
+/// and no more marks stand before a text than were taken.
 #[tactic(auto, using(crate::proofs::NumberLaw::page_numbers, crate::proofs::NumberLaw::fragment_numbers))]
-pub fn numbers_are_those_of_start_tags()
+pub fn numbers_are_those_of_marks()
     ensures page { (flags : Flags) (page : List ℕ) →
-        AreNumberedBelow (page_read flags page).starts (html_tree_by flags page).trees }
+        AreNumberedBelow (page_read flags page).marks (html_tree_by flags page).trees }
     ensures fragment { (flags : Flags) (context : Context) (bytes : List ℕ) →
-        AreNumberedBelow (fragment_read flags context bytes).starts
+        AreNumberedBelow (fragment_read flags context bytes).marks
         (html_fragment_by flags context bytes) }
 {}
 
@@ -131,7 +133,7 @@ pub fn bound_suffices()
 
 /// Where the partial builder of `tl_tree_spec` has an outcome, the whole definition has the same
 /// trees, in the context of a `div`, whether `search` is a special element or not: but for the
-/// numbers of start tags, which partial trees don't have.
+/// numbers of marks, which partial trees don't have.
 #[tactic(auto, using(crate::proofs::PartTrees::partial_is_whole))]
 pub fn partial_trees_are_whole()
     ensures { (counts_search : Bool) (tokens : List HtmlToken) (forest : HtmlForest) →
