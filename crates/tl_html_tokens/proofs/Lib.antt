@@ -34,3 +34,5 @@ pub mod Doctyped
 pub mod Drives
 pub mod Sections
 pub mod Told
+pub mod InTag
+pub mod TagTokens

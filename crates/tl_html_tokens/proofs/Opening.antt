@@ -66,16 +66,16 @@ next_is s r b x e f n =
     ∙ ap (λ (y : State). let z : Reader = record { state = y; after_return = b == 13 } in z) f
     ∙ ap (λ (v : Bool). let z : Reader = record { state = r; after_return = v } in z) n
 
-goes_is : (s r : State) (b : ℕ) (t : List ℕ) (x : Step) → read (at s) b ≡ x → x.next ≡ r → x.emits ≡ [] → (b == 13) ≡ false → tokens_of (at s) (b ∷ t) ≡ tokens_of (at r) t
+pub goes_is : (s r : State) (b : ℕ) (t : List ℕ) (x : Step) → read (at s) b ≡ x → x.next ≡ r → x.emits ≡ [] → (b == 13) ≡ false → tokens_of (at s) (b ∷ t) ≡ tokens_of (at r) t
 goes_is s r b t x e f z n =
     ap (λ (y : Step). y.emits ++ tokens_of (next (at s) b) t) e
     ∙ ap (λ es. es ++ tokens_of (next (at s) b) t) z
     ∙ ap (λ (y : Reader). tokens_of y t) (next_is s r b x e f n)
 
-plain_is : (s : State) (b : ℕ) (x : Step) → whole_step s (feed b) ≡ x → read (at s) b ≡ x
+pub plain_is : (s : State) (b : ℕ) (x : Step) → whole_step s (feed b) ≡ x → read (at s) b ≡ x
 plain_is s b x e = read_plain s false b refl ∙ e
 
-alike_is : (s r : State) (b : ℕ) (t : List ℕ) → whole_step s (feed b) ≡ whole_step r (feed b) → tokens_of (at s) (b ∷ t) ≡ tokens_of (at r) (b ∷ t)
+pub alike_is : (s r : State) (b : ℕ) (t : List ℕ) → whole_step s (feed b) ≡ whole_step r (feed b) → tokens_of (at s) (b ∷ t) ≡ tokens_of (at r) (b ∷ t)
 alike_is s r b t e =
     let is : read (at s) b ≡ read (at r) b = read_plain s false b refl ∙ e ∙ sym (read_plain r false b refl) in
     ap (λ (x : Step). x.emits ++ tokens_of (record { state = x.next; after_return = b == 13 }) t) is
@@ -109,7 +109,7 @@ end_tag_open_leads b h = elim (cases_Bool (is_ascii_alphabetic b)) [
 name_once : (e : Bool) (b : ℕ) → (step (T.tag_name (new_tag e)) b).again ≡ false
 name_once e b = neither_again (is_white_space b) _ _ refl (neither_again (b == 47) _ _ refl (neither_again (b == 62) _ _ (neither_again e _ _ refl refl) refl))
 
-named : (s : State) (e : Bool) (b : ℕ) → step s b ≡ T.again_in (T.tag_name (new_tag e)) → whole_step s b ≡ whole_step (T.tag_name (new_tag e)) b
+pub named : (s : State) (e : Bool) (b : ℕ) → step s b ≡ T.again_in (T.tag_name (new_tag e)) → whole_step s b ≡ whole_step (T.tag_name (new_tag e)) b
 named s e b h =
     let N : Step = step (T.tag_name (new_tag e)) b in
     ap (λ (x : Step). settled 3 x b) h ∙ settled_at_once 2 N b (name_once e b) ∙ sym (settled_at_once 3 N b (name_once e b))

@@ -6,3 +6,4 @@ pub mod Runs
 pub mod Quiet
 pub mod Through
 pub mod Scanned
+pub mod InTag
