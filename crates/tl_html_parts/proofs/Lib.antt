@@ -8,3 +8,5 @@ pub mod Kept
 pub mod Splits
 pub mod Rests
 pub mod Tags
+pub mod Naming
+pub mod Carried

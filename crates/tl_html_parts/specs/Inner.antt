@@ -1,2 +1,5 @@
 -- What the proofs and private functions of this crate cite, and no public clause.
 pub mod Tail
+pub mod Quoted
+pub mod TagParts
+pub mod Named

@@ -3,4 +3,5 @@ pub mod Parts
 pub mod Bytes
 pub mod Rest
 pub mod Places
+pub mod Fronts
 pub mod Inner

@@ -1,5 +1,6 @@
 -- Where the parts of a tag stand in a text.
-use Rattle.std.specs.Prelude.{◌≡◌, ◌≤◌, ◌<◌, ◌-◌, ℕ, Bool, true, List, [], ◌∷◌, drop, length, take}
+use Rattle.std.specs.Prelude.{◌≡◌, ◌≤◌, ◌<◌, ◌-◌, ℕ, Bool, true, List, [], ◌∷◌, drop, length, map, take}
+use Rattle.std.specs.List.{All}
 use Rattle.tl_html_spec.specs.HtmlTokenizer.{EndTag, HtmlToken, StartTag}
 use Rattle.tl_html_tokens.specs.Kinds.{IsEndTag, IsStartTag}
 use Rattle.tl_html_tokens.specs.Whole.{IsWhole}
@@ -20,6 +21,18 @@ pub record IsPart (said : List ℕ → List ℕ) (text : List ℕ) (p : PartPlac
   pub order : p.start ≤ p.end
   pub within : p.end ≤ length text
   pub plain : p.is_plain ≡ true → said (part_in text p) ≡ part_in text p
+
+-- the parts of attributes stand in a text
+abbrev pub AreParts : List ℕ → List AttributePlace → Type 0
+AreParts text attributes =
+    All (λ a. IsPart name_of text a.key × IsPart value_of text a.value) attributes
+
+-- the bytes of a key and of its value
+abbrev pub pair_in : List ℕ → AttributePlace → List ℕ × List ℕ
+pair_in text a = (part_in text a.key, part_in text a.value)
+
+abbrev pub pairs_in : List ℕ → List AttributePlace → List (List ℕ × List ℕ)
+pairs_in text attributes = map (pair_in text) attributes
 
 -- the rest of a tag from a place on is this attribute, and what stands after it
 pub record IsAttributeAt (text : List ℕ) (from : ℕ) (a : AttributePlace) : Type 0 where

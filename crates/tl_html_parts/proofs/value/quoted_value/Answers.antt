@@ -1,5 +1,8 @@
-use Rattle.std.proofs.Common.{◌≡◌, ◌∙◌, ◌+◌, ◌-◌, ◌≤◌, ℕ, List, true, ap, arith, drop, drop-drop, length, length-drop, subst, suc, sym, take, refl}
-use Rattle.std.proofs.lemmas.List.{take_rest}
+use Rattle.std.proofs.Common.{◌≡◌, ◌∙◌, ◌+◌, ◌-◌, ◌≤◌, ◌<◌, ◌∷◌, ℕ, List, true, ap, arith, drop, drop-drop, get_or, inl, inr, length, length-drop, subst, suc, sym, take, refl}
+use Rattle.std.proofs.lemmas.Bool.{eqb-true, not-false}
+use Rattle.tl_spec.specs.Lex.Grammar.{Stops}
+use Rattle.tl_spec.proofs.Lex.Bytes.{all-run, drop_while-stops}
+use Rattle.std.proofs.lemmas.List.{drop_more, take_rest}
 use Rattle.std.specs.List.{list_all, prefix_len}
 use Rattle.tl_html_parts.specs.Bytes.{is_kept_in_value}
 use Rattle.tl_html_parts.specs.Parts.{value_of}
@@ -39,3 +42,43 @@ returns-clause-rest c =
     let run : len ≡ prefix_len (is_other c.args.quote) (drop from t) = c.quoted-found.ensures.run ∙ ap (prefix_len (is_other c.args.quote)) (take_rest t from) in
     let end : from + len + 1 ≡ from + suc len = omega arith in
     ap (λ n. drop n t) end ∙ sym (drop-drop (suc len) from t) ∙ ap (λ n. drop (suc n) (drop from t)) run
+
+-- up to where the run ends
+run_is : (quote : ℕ) (t : List ℕ) (from len : ℕ) → from ≤ length t → len ≡ prefix_len (is_other quote) (drop from t) →
+    list_all (is_other quote) (take (from + len - from) (drop from t)) ≡ true
+run_is quote t from len l e =
+    let many : from + len - from ≡ len = omega arith in
+    ap (λ n. list_all (is_other quote) (take n (drop from t))) (many ∙ e) ∙ all-run (is_other quote) (drop from t)
+
+quote_is : (quote : ℕ) (t : List ℕ) (from len : ℕ) → from + len < length t → len ≡ prefix_len (is_other quote) (drop from t) → get_or t (from + len) 0 ≡ quote
+quote_is quote t from len l e =
+    let stops : Stops (is_other quote) (drop len (drop from t)) = subst (λ n. Stops (is_other quote) (drop n (drop from t))) (sym e) (drop_while-stops (is_other quote) (drop from t)) in
+    let there : Stops (is_other quote) (get_or t (from + len) 0 ∷ drop (from + len + 1) t) = subst (Stops (is_other quote)) (drop-drop len from t ∙ drop_more t (from + len) 0 l) stops in
+    eqb-true (get_or t (from + len) 0) quote (not-false _ there)
+
+pub returns-then-end-text-clause-ends : goal.returns-then-end-text-clause-ends
+returns-then-end-text-clause-ends c =
+    let t : List ℕ = c.args.text.now in
+    let from : ℕ = c.args.from in
+    let run = c.quoted-found.ensures.run ∙ ap (prefix_len (is_other c.args.quote)) (take_rest t from) in
+    record {
+      order = omega arith;
+      inside = run_is c.args.quote t from c.quoted-found.result.len c.requires run;
+      ends = inr (c.if-end-text.true, refl);
+    }
+
+pub returns-clause-ends : goal.returns-clause-ends
+returns-clause-ends c =
+    let t : List ℕ = c.args.text.now in
+    let from : ℕ = c.args.from in
+    let len : ℕ = c.quoted-found.result.len in
+    let run = c.quoted-found.ensures.run ∙ ap (prefix_len (is_other c.args.quote)) (take_rest t from) in
+    let fits : len ≤ length (drop from t) = subst (λ (s : List ℕ). len ≤ length s) (take_rest t from) c.quoted-found.ensures.within in
+    let left = length-drop from t in
+    let other = c.if-end-text.false in
+    let inside : from + len < length t = omega arith in
+    record {
+      order = omega arith;
+      inside = run_is c.args.quote t from len c.requires run;
+      ends = inl (inside, quote_is c.args.quote t from len inside run, refl);
+    }
