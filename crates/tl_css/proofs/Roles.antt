@@ -37,6 +37,7 @@ IsInner (Opens role left) = is_top role ≡ false
 abbrev OpensInner : PseudoClass → Type 0
 OpensInner (p.Edge way link) = Unit {0}
 OpensInner (p.Only link) = Unit {0}
+OpensInner (p.Outermost anchor) = Unit {0}
 OpensInner p.Empty = Unit {0}
 OpensInner (p.List role) = is_top role ≡ false
 OpensInner (p.Nth way link) = Unit {0}
@@ -57,7 +58,8 @@ plain_opens word =
     (one_of (bytes_eq word (codes "last-of-type")) _ _ tt
     (one_of (bytes_eq word (codes "only-of-type")) _ _ tt
     (one_of (bytes_eq word (codes "root")) _ _ tt
-    (one_of (bytes_eq word (codes "empty")) _ None tt tt)))))))
+    (one_of (bytes_eq word (codes "scope")) _ _ tt
+    (one_of (bytes_eq word (codes "empty")) _ None tt tt))))))))
 
 nth_opens : (word : List ℕ) → MayOpen (nth_class word)
 nth_opens word =
@@ -102,6 +104,7 @@ nth_inner opened way link s = bound IsInner (gap_at s) _
 class_inner : (class : PseudoClass) (s : List ℕ) → OpensInner class → Fine (class_at class s)
 class_inner (p.Edge way link) s h = whole_inner _ s
 class_inner (p.Only link) s h = whole_inner _ s
+class_inner (p.Outermost anchor) s h = whole_inner _ s
 class_inner p.Empty s h = whole_inner _ s
 class_inner (p.List role) s h = bound IsInner (argument_at s) _ (λ opened. h)
 class_inner (p.Nth way link) s h = bound IsInner (argument_at s) _ (λ opened. nth_inner opened.0 way link opened.1)
@@ -119,7 +122,8 @@ simple_inner [] = tt
 simple_inner (b ∷ s) = if_both Fine (b == byte ":") _ _ (λ _. pseudo_inner (b ∷ s) s)
     (λ _. if_both Fine (b == byte "[") _ _ (λ _. bound IsInner (attribute_at (length (b ∷ s)) s) _ (λ _. tt))
     (λ _. if_both Fine (b == byte "#") _ _ (λ _. bound IsInner (name_at s) _ (λ _. tt))
-    (λ _. if_both Fine (b == byte ".") _ _ (λ _. bound IsInner (name_at s) _ (λ _. tt)) (λ _. tt))))
+    (λ _. if_both Fine (b == byte ".") _ _ (λ _. bound IsInner (name_at s) _ (λ _. tt))
+    (λ _. if_both Fine (b == byte "&") _ _ (λ _. tt) (λ _. tt)))))
 
 first_inner : (s : List ℕ) → Fine (first_at s)
 first_inner [] = tt

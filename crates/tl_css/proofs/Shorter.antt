@@ -16,7 +16,7 @@ use Rattle.tl_css.specs.declared.selector.Way.{Way}
 use Rattle.tl_css.specs.declared.selector.Op.{Op}
 use Rattle.tl_css.specs.declared.text.role.PseudoClass.{PseudoClass}
 use Rattle.tl_css.specs.declared.text.role.PseudoClass.TheVariants as p
-use Rattle.tl_css.specs.Selector.{Css, Test, Value}
+use Rattle.tl_css.specs.Selector.{Css, Ident, Test, Value}
 use Rattle.tl_css.specs.Bytes.{decimal_number}
 use Rattle.tl_css.specs.Read.{Read, wrong, ◌>>=◌, after_byte}
 use Rattle.tl_css.specs.Lexical.{part_at, run_at, begins, begins_name, name_at, lower_run, is_word, begins_comment, gap_part_at, gap_at}
@@ -76,7 +76,7 @@ after_byte_le b [] = tt
 after_byte_le b (c ∷ s) = if_both (λ (o : Option (List ℕ)). IfSome o (λ rest. length rest ≤ length (c ∷ s))) (c == b) _ _ (λ _. omega arith) (λ _. tt)
 
 key_le : (n : ℕ) (s : List ℕ) → length s ≤ n → Le n (key_at s)
-key_le n s h = if_both (λ (r : Read (List ℕ)). Le n r) (begins_namespace s) _ _ (λ _. tt) (λ _. le_bind n n (name_at s) _ (name_within n s h) (λ p le. le))
+key_le n s h = if_both (λ (r : Read Ident). Le n r) (begins_namespace s) _ _ (λ _. tt) (λ _. le_bind n n (name_at s) _ (name_within n s h) (λ p le. le))
 
 op_by_le : (n b : ℕ) (s : List ℕ) (o : Option Op) (r : Option (List ℕ)) → length s ≤ n → IfSome r (λ rest. length rest ≤ length s) → Le n (op_by b s o r)
 op_by_le n b s (Some op) (Some rest) h le = omega arith
@@ -123,7 +123,7 @@ close_le n opened (b ∷ s) t h =
     let less : length s ≤ n = omega arith in
     if_both (λ (r : Result (List ℕ) Wrong). Le n (r >>= λ rest. Ok (t, rest))) (b == byte "]") _ _ (λ _. less) (λ _. tt)
 
-match_le : (n opened : ℕ) (key : List ℕ) (op : Op) (s : List ℕ) → length s ≤ n → Le n (match_at opened key op s)
+match_le : (n opened : ℕ) (key : Ident) (op : Op) (s : List ℕ) → length s ≤ n → Le n (match_at opened key op s)
 match_le n opened key op s h =
     le_bind n n (gap_at s) _ (gap_within n s h) (λ a ha.
     le_bind n n (value_at opened a.1) _ (value_le n opened a.1 ha) (λ value hv.
@@ -132,7 +132,7 @@ match_le n opened key op s h =
     le_bind n n (gap_at folds.1) _ (gap_within n folds.1 hf) (λ c hc.
     close_le n opened c.1 (Value key op value.0 folds.0) hc)))))
 
-after_key_le : (n opened : ℕ) (key s : List ℕ) → length s ≤ n → Le n (after_key opened key s)
+after_key_le : (n opened : ℕ) (key : Ident) (s : List ℕ) → length s ≤ n → Le n (after_key opened key s)
 after_key_le n opened key [] h = tt
 after_key_le n opened key (b ∷ s) h =
     let less : length s ≤ n = omega arith in
@@ -214,6 +214,7 @@ argument_le n s h = if_both (λ (r : Read ℕ). Le n r) (begins_argument s) _ _ 
 class_le : (n : ℕ) (class : PseudoClass) (s : List ℕ) → length s ≤ n → Le n (class_at class s)
 class_le n (p.Edge way link) s h = whole_le n _ s h
 class_le n (p.Only link) s h = whole_le n _ s h
+class_le n (p.Outermost anchor) s h = whole_le n _ s h
 class_le n p.Empty s h = whole_le n _ s h
 class_le n (p.List role) s h = le_bind n n (argument_at s) _ (argument_le n s h) (λ opened ho. ho)
 class_le n (p.Nth way link) s h = le_bind n n (argument_at s) _ (argument_le n s h) (λ opened ho. nth_le n opened.0 way link opened.1 ho)
@@ -233,7 +234,8 @@ simple_le b s =
     if_both (λ (r : Read Simple). Le n r) (b == byte ":") _ _ (λ _. pseudo_le n (b ∷ s) s same)
     (λ _. if_both (λ (r : Read Simple). Le n r) (b == byte "[") _ _ (λ _. le_bind n n (attribute_at (length (b ∷ s)) s) _ (attribute_le n (length (b ∷ s)) s same) (λ p le. le))
     (λ _. if_both (λ (r : Read Simple). Le n r) (b == byte "#") _ _ (λ _. le_bind n n (name_at s) _ (name_within n s same) (λ p le. le))
-    (λ _. if_both (λ (r : Read Simple). Le n r) (b == byte ".") _ _ (λ _. le_bind n n (name_at s) _ (name_within n s same) (λ p le. le)) (λ _. tt))))
+    (λ _. if_both (λ (r : Read Simple). Le n r) (b == byte ".") _ _ (λ _. le_bind n n (name_at s) _ (name_within n s same) (λ p le. le))
+    (λ _. if_both (λ (r : Read Simple). Le n r) (b == byte "&") _ _ (λ _. same) (λ _. tt)))))
 
 first_le : (b : ℕ) (s : List ℕ) → Le (length s) (first_at (b ∷ s))
 first_le b s =

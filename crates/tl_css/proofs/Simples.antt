@@ -9,6 +9,7 @@ use Rattle.tl_spec.specs.Lex.ByteClass.{is_quote}
 use Rattle.tl_css.specs.declared.error.Wrong.{Wrong}
 use Rattle.tl_css.specs.declared.error.Cause.{Cause}
 use Rattle.tl_css.specs.declared.error.Cause.TheVariants.{Unclosed, NoName}
+use Rattle.tl_css.specs.declared.selector.Anchor.TheVariants.{Scope}
 use Rattle.tl_css.specs.declared.selector.Formula.{Formula}
 use Rattle.tl_css.specs.declared.selector.Link.{Link}
 use Rattle.tl_css.specs.declared.selector.Link.TheVariants.{Parent, Sibling, Twin}
@@ -18,14 +19,14 @@ use Rattle.tl_css.specs.declared.text.role.Role.{Role}
 use Rattle.tl_css.specs.declared.text.role.Role.TheVariants.{NthOf}
 use Rattle.tl_css.specs.declared.text.role.PseudoClass.{PseudoClass}
 use Rattle.tl_css.specs.declared.text.role.PseudoClass.TheVariants as p
-use Rattle.tl_css.specs.Selector.{Css, Test, Any, Is, Name, Value}
+use Rattle.tl_css.specs.Selector.{Css, Ident, ident_of, Test, Any, Is, Name, Value}
 use Rattle.tl_css.specs.Read.{Read, wrong, wrong_at, ◌>>=◌, after_byte}
 use Rattle.tl_css.specs.Lexical.{part_at, run_at, begins, begins_name, name_at, lower_run, is_word, gap_at}
 use Rattle.tl_css.specs.Formula.{formula_at}
 use Rattle.tl_css.specs.Attribute.{op_of, op_by, begins_namespace, key_at, op_at, string_by, value_at, flag_at, close_at, match_at, after_key, attribute_at}
-use Rattle.tl_css.specs.PseudoClass.{Simple, Whole, Opens, pseudo_class, begins_argument, whole_at, is_sibling, after_formula, nth_at, argument_at, class_at, class_by, pseudo_at}
+use Rattle.tl_css.specs.PseudoClass.{Simple, Whole, Opens, outermost, pseudo_class, begins_argument, whole_at, is_sibling, after_formula, nth_at, argument_at, class_at, class_by, pseudo_at}
 use Rattle.tl_css.specs.Item.{simple_at, first_at}
-use Rattle.tl_css.specs.SimpleGrammar.{GapStands, NameStands, WordStands, word, ValueStands, bare, quoted, FlagStands, no_flag, folds, exact, AttributeStands, key, value, PseudoStands, edge_class, only_class, empty_class, nth_class, ListBegins, list_class, of_class, SimpleStands, any, type, id, class, attribute, pseudo}
+use Rattle.tl_css.specs.SimpleGrammar.{GapStands, NameStands, WordStands, word, ValueStands, bare, quoted, FlagStands, no_flag, folds, exact, AttributeStands, key, value, PseudoStands, edge_class, only_class, anchor_class, empty_class, nth_class, ListBegins, list_class, of_class, SimpleStands, any, type, nesting, id, class, attribute, pseudo}
 use Rattle.std.proofs.lemmas.Slice.Eq.{bytes_eq-Decides}
 use Rattle.std.specs.Cmp.{unsigned_Decides}
 use Rattle.std.proofs.Common.{arith}
@@ -90,9 +91,13 @@ flag_reads s = if_both (λ (r : Read Bool). Reads (FlagStands s) r) (begins_name
     (λ _. if_both (λ (r : Read Bool). Reads (FlagStands s) r) (is_word s (codes "s")) _ _ (λ w. exact (flag_word s (codes "s") n w)) (λ _. tt)))
     (λ none. no_flag none)
 
-key_reads : (s : List ℕ) → Reads (WordStands s) (key_at s)
-key_reads s = if_both (λ (r : Read (List ℕ)). Reads (WordStands s) r) (begins_namespace s) _ _ (λ _. tt)
-    (λ _. reads_bind (WordStands s) (name_at s) _ (λ name is. word is))
+-- a name or a key stands
+data KeyStands : List ℕ → Ident → List ℕ → Type 0 where
+  key_stands : {s name rest : List ℕ} → NameStands s name rest → KeyStands s (ident_of name) rest
+
+key_reads : (s : List ℕ) → Reads (KeyStands s) (key_at s)
+key_reads s = if_both (λ (r : Read Ident). Reads (KeyStands s) r) (begins_namespace s) _ _ (λ _. tt)
+    (λ _. reads_bind (KeyStands s) (name_at s) _ (λ name is. key_stands is))
 
 close_reads : (P : Test → List ℕ → Type 0) (opened : ℕ) (s : List ℕ) (test : Test) → ((rest : List ℕ) → s ≡ byte "]" ∷ rest → P test rest)
     → Reads P (close_at opened s >>= λ rest. Ok (test, rest))
@@ -100,31 +105,35 @@ close_reads P opened [] test h = tt
 close_reads P opened (b ∷ s) test h = if_both (λ (r : Result (List ℕ) Wrong). Reads P (r >>= λ rest. Ok (test, rest))) (b == byte "]") _ _
     (λ e. h s (ap (λ (b : ℕ). b ∷ s) (eqb-true b (byte "]") e))) (λ _. tt)
 
-match_reads : (opened : ℕ) (s a own b c d : List ℕ) (t u : Bool) (op : Op) → GapStands s t a → WordStands a own b → GapStands b u c → op_at c ≡ Ok (op, d)
-    → Reads (AttributeStands s) (match_at opened own op d)
+match_reads : (opened : ℕ) (s a own b c d : List ℕ) (t u : Bool) (op : Op) → GapStands s t a → NameStands a own b → GapStands b u c → op_at c ≡ Ok (op, d)
+    → Reads (AttributeStands s) (match_at opened (ident_of own) op d)
 match_reads opened s a own b c d t u op gap name after is =
     reads_bind (AttributeStands s) (gap_at d) _ (λ e he.
     reads_then (ValueStands e.1) (AttributeStands s) (value_at opened e.1) _ (value_reads opened e.1) (λ f hf.
     reads_bind (AttributeStands s) (gap_at f.1) _ (λ g hg.
     reads_then (FlagStands g.1) (AttributeStands s) (flag_at g.1) _ (flag_reads g.1) (λ h hh.
     reads_bind (AttributeStands s) (gap_at h.1) _ (λ k hk.
-    close_reads (AttributeStands s) opened k.1 (Value own op f.0 h.0) (λ rest close.
+    close_reads (AttributeStands s) opened k.1 (Value (ident_of own) op f.0 h.0) (λ rest close.
     value gap name after is he hf hg hh k.0 (subst (λ (v : List ℕ). GapStands h.1 k.0 v) close hk)))))))
 
-after_key_reads : (opened : ℕ) (s a own b c : List ℕ) (t u : Bool) → GapStands s t a → WordStands a own b → GapStands b u c
-    → Reads (AttributeStands s) (after_key opened own c)
+after_key_reads : (opened : ℕ) (s a own b c : List ℕ) (t u : Bool) → GapStands s t a → NameStands a own b → GapStands b u c
+    → Reads (AttributeStands s) (after_key opened (ident_of own) c)
 after_key_reads opened s a own b [] t u gap name after = tt
 after_key_reads opened s a own b (c ∷ rest) t u gap name after =
     if_both (λ (r : Read Test). Reads (AttributeStands s) r) (c == byte "]") _ _
     (λ e. key gap name (subst (λ (c : ℕ). GapStands b u (c ∷ rest)) (eqb-true c (byte "]") e) after))
     (λ _. reads_bind (AttributeStands s) (op_at (c ∷ rest)) _ (λ op is. match_reads opened s a own b (c ∷ rest) op.1 t u op.0 gap name after is))
 
+keyed_reads : (opened : ℕ) (s a b : List ℕ) (t : Bool) (own : Ident) → GapStands s t a → KeyStands a own b
+    → Reads (AttributeStands s) (gap_at b >>= λ gap. after_key opened own gap.1)
+keyed_reads opened s a b t own gap (key_stands {name = name} h) =
+    reads_bind (AttributeStands s) (gap_at b) _ (λ c hc. after_key_reads opened s a name b c.1 t c.0 gap h hc)
+
 attribute_reads : (opened : ℕ) (s : List ℕ) → Reads (AttributeStands s) (attribute_at opened s)
 attribute_reads opened s =
     reads_bind (AttributeStands s) (gap_at s) _ (λ a ha.
-    reads_then (WordStands a.1) (AttributeStands s) (key_at a.1) _ (key_reads a.1) (λ name hn.
-    reads_bind (AttributeStands s) (gap_at name.1) _ (λ b hb.
-    after_key_reads opened s a.1 name.0 name.1 b.1 a.0 b.0 ha hn hb)))
+    reads_then (KeyStands a.1) (AttributeStands s) (key_at a.1) _ (key_reads a.1) (λ name hn.
+    keyed_reads opened s a.1 name.1 a.0 name.0 ha hn))
 
 -- what a pseudo-class is, after its `:`
 abbrev PseudoIs : List ℕ → Simple → List ℕ → Type 0
@@ -177,6 +186,7 @@ formula_reads s own a b c (x ∷ d) opened v w way link formula name is gap f af
 class_reads : (s own rest : List ℕ) (o : PseudoClass) → WordStands s own rest → pseudo_class own ≡ Some o → Reads (PseudoIs s) (class_at o rest)
 class_reads s own rest (p.Edge way link) name is = if_both (λ (r : Read Simple). Reads (PseudoIs s) r) (begins_argument rest) _ _ (λ _. tt) (λ none. edge_class name is none)
 class_reads s own rest (p.Only link) name is = if_both (λ (r : Read Simple). Reads (PseudoIs s) r) (begins_argument rest) _ _ (λ _. tt) (λ none. only_class name is none)
+class_reads s own rest (p.Outermost anchor) name is = if_both (λ (r : Read Simple). Reads (PseudoIs s) r) (begins_argument rest) _ _ (λ _. tt) (λ none. anchor_class name is none)
 class_reads s own rest p.Empty name is = if_both (λ (r : Read Simple). Reads (PseudoIs s) r) (begins_argument rest) _ _ (λ _. tt) (λ none. empty_class name is none)
 class_reads s own rest (p.List role) name is =
     reads_then (λ left m. rest ≡ byte "(" ∷ m) (PseudoIs s) (argument_at rest) _ (argument_reads rest)
@@ -226,7 +236,9 @@ simple_reads first b s =
     (λ e. at_byte first b (byte "#") s _ e (reads_bind (SimpleIs first (byte "#" ∷ s)) (name_at s) _ (λ name h. id h)))
     (λ _. if_both (λ (r : Read Simple). Reads (SimpleIs first (b ∷ s)) r) (b == byte ".") _ _
     (λ e. at_byte first b (byte ".") s _ e (reads_bind (SimpleIs first (byte "." ∷ s)) (name_at s) _ (λ name h. class h)))
-    (λ _. tt))))
+    (λ _. if_both (λ (r : Read Simple). Reads (SimpleIs first (b ∷ s)) r) (b == byte "&") _ _
+    (λ e. at_byte first b (byte "&") s (Ok (Whole (outermost Scope), s)) e (nesting {first = first} {s = s}))
+    (λ _. tt)))))
   where
     reads_map : (r : Read Simple) → Reads (PseudoIs s) r → Reads (SimpleIs first (byte ":" ∷ s)) r
     reads_map (Ok p) h = pseudo_simple first s p.0 p.1 h
@@ -235,7 +247,7 @@ simple_reads first b s =
 first_reads_as : (b : ℕ) (s : List ℕ) → Reads (SimpleIs true (b ∷ s)) (first_at (b ∷ s))
 first_reads_as b s = if_both (λ (r : Read Simple). Reads (SimpleIs true (b ∷ s)) r) (b == byte "*") _ _
     (λ e. at_byte true b (byte "*") s (Ok (Whole (Is Any), s)) e (any {s = s}))
-    (λ _. if_both (λ (r : Read Simple). Reads (SimpleIs true (b ∷ s)) r) (begins_name (b ∷ s)) _ _ (λ n. type (word_stands (b ∷ s) n)) (λ _. simple_reads true b s))
+    (λ _. if_both (λ (r : Read Simple). Reads (SimpleIs true (b ∷ s)) r) (begins_name (b ∷ s)) _ _ (λ n. type (name_stands (b ∷ s) n)) (λ _. simple_reads true b s))
 
 simples_read : (first : Bool) (s : List ℕ) → Reads (SimpleIs first s) (simple_by first s)
 simples_read true [] = tt
@@ -264,9 +276,9 @@ no_namespace (b ∷ t) h =
     ap (λ (v : Bool). v || (if b == byte "*" then is_some (after_byte (byte "|") t) else false)) (not_byte b (byte "|") t h refl)
     ∙ if_no _ _ _ (not_byte b (byte "*") t h refl)
 
-key_read : (s own rest : List ℕ) → WordStands s own rest → key_at s ≡ Ok (own, rest)
-key_read s own rest (word {name = name} h) =
-    if_no _ _ _ (no_namespace s (name_is s name rest h).0) ∙ bind_to (name_at s) _ _ _ h refl
+key_read : (s own rest : List ℕ) → NameStands s own rest → key_at s ≡ Ok (ident_of own, rest)
+key_read s own rest h =
+    if_no _ _ _ (no_namespace s (name_is s own rest h).0) ∙ bind_to (name_at s) _ _ _ h refl
 
 bare_read : (opened : ℕ) (s own rest : List ℕ) → NameStands s own rest → value_at opened s ≡ Ok (own, rest)
 bare_read opened [] own rest h = absurd (never (name_is [] own rest h).0)
@@ -299,7 +311,7 @@ no_op : (t : List ℕ) (r : Option (List ℕ)) (y : Op × List ℕ) → op_by (b
 no_op t None y h = absurd (cc)
 no_op t (Some rest) y h = absurd (cc)
 
-after_key_read : (opened : ℕ) (own c d : List ℕ) (op : Op) (y : Test × List ℕ) → op_at c ≡ Ok (op, d) → match_at opened own op d ≡ Ok y
+after_key_read : (opened : ℕ) (own : Ident) (c d : List ℕ) (op : Op) (y : Test × List ℕ) → op_at c ≡ Ok (op, d) → match_at opened own op d ≡ Ok y
     → after_key opened own c ≡ Ok y
 after_key_read opened own [] d op y is h = absurd (cc)
 after_key_read opened own (b ∷ t) d op y is h =
@@ -311,7 +323,7 @@ attribute_read opened s test rest (key {a = a} {b = b} {key = own} gap name afte
     bind_to (gap_at s) _ _ _ gap (bind_to (key_at a) _ _ _ (key_read a own b name) (bind_to (gap_at b) _ _ _ after refl))
 attribute_read opened s test rest (value {a = a} {b = b} {c = c} {d = d} {e = e} {f = f} {g = g} {h = h} {key = own} {own = text} {folds = flag} {op = op} gap name after is before own_is behind flag_is x last) =
     bind_to (gap_at s) _ _ _ gap (bind_to (key_at a) _ _ _ (key_read a own b name) (bind_to (gap_at b) _ _ _ after
-    (after_key_read opened own c d op _ is
+    (after_key_read opened (ident_of own) c d op _ is
     (bind_to (gap_at d) _ _ _ before (bind_to (value_at opened e) _ _ _ (value_read opened e text f own_is)
     (bind_to (gap_at f) _ _ _ behind (bind_to (flag_at g) _ _ _ (flag_read g h flag flag_is) (bind_to (gap_at h) _ _ _ last refl))))))))
 
@@ -344,6 +356,7 @@ nth_read opened way link a (x ∷ b) c d v w formula y gap f after is =
 pseudo_read : (colon s : List ℕ) (e : Css) (rest : List ℕ) → PseudoStands s e rest → pseudo_at colon s ≡ Ok (Whole e, rest)
 pseudo_read colon s e rest (edge_class {word = own} {way = way} {link = link} name is plain) = class_read colon s own rest (p.Edge way link) _ name is (if_no _ _ _ plain)
 pseudo_read colon s e rest (only_class {word = own} {link = link} name is plain) = class_read colon s own rest (p.Only link) _ name is (if_no _ _ _ plain)
+pseudo_read colon s e rest (anchor_class {word = own} {anchor = anchor} name is plain) = class_read colon s own rest (p.Outermost anchor) _ name is (if_no _ _ _ plain)
 pseudo_read colon s e rest (empty_class {word = own} name is plain) = class_read colon s own rest p.Empty _ name is (if_no _ _ _ plain)
 pseudo_read colon s e rest (nth_class {word = own} {a = a} {b = b} {c = c} {v = v} {w = w} {way = way} {link = link} {formula = formula} name is gap f after) =
     class_read colon s own (byte "(" ∷ a) (p.Nth way link) _ name is
@@ -374,15 +387,18 @@ list_read false s role rest (of_class {word = own} {a = a} {b = b} {c = c} {d = 
       (nth_read (length (byte "(" ∷ a)) way Sibling a b c d v true formula _ gap f after (of_read (length (byte "(" ∷ a)) way formula d rest of)),
 )
 
-type_read : (s own rest : List ℕ) → WordStands s own rest → first_at s ≡ Ok (Whole (Is (Name own)), rest)
-type_read [] own rest h = absurd (never (word_is [] own rest h).0)
+type_read : (s own rest : List ℕ) → NameStands s own rest → first_at s ≡ Ok (Whole (Is (Name (ident_of own))), rest)
+type_read [] own rest h = absurd (never (name_is [] own rest h).0)
 type_read (b ∷ t) own rest h =
-    let is = word_is (b ∷ t) own rest h in
-    if_no _ _ _ (not_byte b (byte "*") t is.0 refl) ∙ (if_yes _ _ _ is.0 ∙ (λ i. Ok (Whole (Is (Name (is.1 i))), is.2 i)))
+    let is = name_is (b ∷ t) own rest h in
+    if_no _ _ _ (not_byte b (byte "*") t is.0 refl)
+    ∙ (if_yes _ _ _ is.0 ∙ ap (λ (r : List ℕ × List ℕ). Ok (Whole (Is (Name (ident_of r.0))), r.1)) is.1)
 
 pub simple_read : (first : Bool) (s : List ℕ) (e : Css) (rest : List ℕ) → SimpleStands first s e rest → simple_by first s ≡ Ok (Whole e, rest)
 simple_read first s e rest any = refl
-simple_read first s e rest (type {word = own} h) = type_read s own rest h
+simple_read first s e rest (type {name = own} h) = type_read s own rest h
+simple_read true s e rest nesting = refl
+simple_read false s e rest nesting = refl
 simple_read true s e rest (id {s = t} h) = bind_to (name_at t) _ _ _ h refl
 simple_read false s e rest (id {s = t} h) = bind_to (name_at t) _ _ _ h refl
 simple_read true s e rest (class {s = t} h) = bind_to (name_at t) _ _ _ h refl

@@ -1,12 +1,12 @@
 -- Attribute selectors: `[key]`, `[key op value]`, `[key op value flag]`.
 use Rattle.std.specs.Prelude.{ℕ, Bool, true, false, ◌==◌, ◌||◌, if◌then◌else◌, List, [], ◌∷◌, Option, Some, None, is_some, codes, Result, Ok}
-use Rattle.std.specs.Str.{byte, str_to_ascii_lowercase}
+use Rattle.std.specs.Str.{byte}
 use Rattle.tl_spec.specs.Lex.ByteClass.{is_quote}
 use Rattle.tl_css.specs.declared.error.Wrong.{Wrong}
 use Rattle.tl_css.specs.declared.error.Cause.TheVariants.{Unclosed, NoOperator, NoValue, NoFlag, Namespace, Unexpected}
 use Rattle.tl_css.specs.declared.selector.Op.{Op}
 use Rattle.tl_css.specs.declared.selector.Op.TheVariants.{Equals, Word, Dashed, Starts, Ends, Inside}
-use Rattle.tl_css.specs.Selector.{Test, Key, Value}
+use Rattle.tl_css.specs.Selector.{Ident, ident_of, Test, Key, Value}
 use Rattle.tl_css.specs.Read.{Read, wrong, wrong_at, ◌>>=◌, after_byte}
 use Rattle.tl_css.specs.Lexical.{run_at, begins_name, name_at, is_word, gap_at}
 
@@ -16,10 +16,9 @@ begins_namespace [] = false
 begins_namespace (b ∷ s) =
     (b == byte "|") || (if b == byte "*" then is_some (after_byte (byte "|") s) else false)
 
--- a key, in lower case
-abbrev pub key_at : List ℕ → Read (List ℕ)
+abbrev pub key_at : List ℕ → Read Ident
 key_at s = if begins_namespace s then wrong s Namespace
-    else (name_at s >>= λ name. Ok (str_to_ascii_lowercase name.0, name.1))
+    else (name_at s >>= λ name. Ok (ident_of name.0, name.1))
 
 -- the op whose first byte this is, where a `=` follows
 abbrev pub op_of : ℕ → Option Op
@@ -67,13 +66,13 @@ close_at opened [] = wrong_at opened Unclosed
 close_at opened (b ∷ s) = if b == byte "]" then Ok s else wrong (b ∷ s) Unexpected
 
 -- what stands after a key and an op: a value, a flag or none, and `]`
-abbrev pub match_at : ℕ → List ℕ → Op → List ℕ → Read Test
+abbrev pub match_at : ℕ → Ident → Op → List ℕ → Read Test
 match_at opened key op s =
     gap_at s >>= λ a. value_at opened a.1 >>= λ value. gap_at value.1 >>= λ b.
     flag_at b.1 >>= λ folds. gap_at folds.1 >>= λ c.
     close_at opened c.1 >>= λ rest. Ok (Value key op value.0 folds.0, rest)
 
-abbrev pub after_key : ℕ → List ℕ → List ℕ → Read Test
+abbrev pub after_key : ℕ → Ident → List ℕ → Read Test
 after_key opened key [] = wrong_at opened Unclosed
 after_key opened key (b ∷ s) = if b == byte "]" then Ok (Key key, s)
     else (op_at (b ∷ s) >>= λ op. match_at opened key op.0 op.1)

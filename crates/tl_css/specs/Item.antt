@@ -5,6 +5,7 @@ use Rattle.std.specs.Str.{byte}
 use Rattle.std.specs.List.{list_any}
 use Rattle.tl_css.specs.declared.error.Cause.{Cause}
 use Rattle.tl_css.specs.declared.error.Cause.TheVariants.{Unclosed, NoSelector, Namespace, Unexpected}
+use Rattle.tl_css.specs.declared.selector.Anchor.TheVariants.{Scope}
 use Rattle.tl_css.specs.declared.text.role.Role.{Role}
 use Rattle.tl_css.specs.declared.text.role.Role.TheVariants.{Top, Is as IsRole, Not as NotRole, Has, NthOf}
 use Rattle.tl_css.specs.declared.text.role.Combinator.{Combinator}
@@ -13,9 +14,9 @@ use Rattle.tl_css.specs.declared.text.role.Before.{Before}
 use Rattle.tl_css.specs.declared.text.role.Before.TheVariants.{Touching, After, Begin}
 use Rattle.tl_css.specs.Selector.{Any, Name, Id, Class, Is}
 use Rattle.tl_css.specs.Read.{Read, wrong, wrong_at, ◌>>=◌}
-use Rattle.tl_css.specs.Lexical.{run_at, begins_name, name_at, gap_at, lower_run}
+use Rattle.tl_css.specs.Lexical.{run_at, begins_name, name_at, gap_at, ident_run}
 use Rattle.tl_css.specs.Attribute.{attribute_at}
-use Rattle.tl_css.specs.PseudoClass.{Simple, Whole, pseudo_at}
+use Rattle.tl_css.specs.PseudoClass.{Simple, Whole, outermost, pseudo_at}
 
 abbrev pub unexpected : ℕ → Cause
 unexpected b =
@@ -32,7 +33,8 @@ simple_at (b ∷ s) =
     Ok (Whole (Is test.0), test.1))
     else (if b == byte "#" then (name_at s >>= λ id. Ok (Whole (Is (Id id.0)), id.1))
     else (if b == byte "." then (name_at s >>= λ class. Ok (Whole (Is (Class class.0)), class.1))
-    else wrong (b ∷ s) (unexpected b))))
+    else (if b == byte "&" then Ok (Whole (outermost Scope), s)
+    else wrong (b ∷ s) (unexpected b)))))
 
 -- a simple selector that may stand first: a type selector too
 abbrev pub first_at : List ℕ → Read Simple
@@ -40,7 +42,7 @@ first_at [] = wrong [] NoSelector
 first_at (b ∷ s) =
     if b == byte "*" then Ok (Whole (Is Any), s)
     else (if begins_name (b ∷ s) then Ok
-    (Whole (Is (Name (lower_run (b ∷ s)))), (run_at None (b ∷ s)).1)
+    (Whole (Is (Name (ident_run (b ∷ s)))), (run_at None (b ∷ s)).1)
     else simple_at (b ∷ s))
 
 abbrev pub combinator_of : ℕ → Option Combinator

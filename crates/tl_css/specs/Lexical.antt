@@ -6,6 +6,7 @@ use Rattle.tl_spec.specs.Lex.Runs.{after_needle, read_many}
 use Rattle.tl_css.specs.declared.error.Cause.TheVariants.{Unclosed, NoName}
 use Rattle.tl_css.specs.Bytes.{is_newline, is_white, is_name_byte, is_string_byte, backslash, is_hex, hex_number, char_of}
 use Rattle.tl_css.specs.Read.{Read, wrong}
+use Rattle.tl_css.specs.Selector.{Ident, ident_of}
 
 -- what stands after a byte of white space; a line end of two bytes is one
 abbrev pub past_white : List ℕ → List ℕ
@@ -76,6 +77,10 @@ name_at s = if begins_name s then Ok (run_at None s) else wrong s NoName
 -- a name, in lower case
 abbrev pub lower_run : List ℕ → List ℕ
 lower_run s = str_to_ascii_lowercase (run_at None s).0
+
+-- the same as a name or a key
+abbrev pub ident_run : List ℕ → Ident
+ident_run s = ident_of (run_at None s).0
 
 -- this keyword, as a name in any case
 abbrev pub is_word : List ℕ → List ℕ → Bool

@@ -18,7 +18,7 @@ use Rattle.tl_css.specs.declared.selector.Reach.TheVariants.{Once, Often}
 use Rattle.tl_css.specs.declared.selector.Way.{Way}
 use Rattle.tl_css.specs.declared.selector.Way.TheVariants.{From, To}
 use Rattle.tl_css.specs.declared.selector.Formula.{Formula}
-use Rattle.tl_css.specs.Selector.{Test, Any, Name, Id, Class, Key, Value, Empty, Css, Is, Not, Both, Either, At, Nth}
+use Rattle.tl_css.specs.Selector.{Test, Any, Name, Id, Class, Key, Value, Empty, May, Css, Is, Not, Both, Either, At, Nth}
 use Rattle.tl_css.specs.Bytes.{is_white}
 
 -- the pairs of a tag, `id` and `class` too
@@ -69,16 +69,22 @@ module _ (nodes : List Node) where
   IsNothing n = (slice_get nodes n ≡ Some (Raw []))
       ⊎ ((bytes : List ℕ) × (slice_get nodes n ≡ Some (Comment bytes)))
 
-  -- a test passes at a tag; the keys `id` and `class` are these in exact case
+  -- a name is this one in lower case
+  abbrev pub IsNamed : List ℕ → Node → Type 0
+  IsNamed name node = IsSomeAnd (name_of node) (λ own. str_to_ascii_lowercase own ≡ name)
+
+  -- a test passes at a tag; the keys `id` and `class` are these in exact case. No anchor is given,
+  -- so any tag may be one, and the outermost stands in none
   abbrev pub IsMet : Test → Node → Type 0
   IsMet Any node = ⊤
-  IsMet (Name name) node = IsSomeAnd (name_of node) (λ own. str_to_ascii_lowercase own ≡ name)
+  IsMet (Name name) node = IsNamed name.lower node
   IsMet (Id id) node = has_id id node ≡ true
   IsMet (Class class) node = is_in_class class node ≡ true
-  IsMet (Key key) node = HasKey (λ own. ⊤) key node
+  IsMet (Key key) node = HasKey (λ own. ⊤) key.lower node
   IsMet (Value key op value folds) node =
-      HasKey (λ own. Passes op (folded folds value) (folded folds own)) key node
+      HasKey (λ own. Passes op (folded folds value) (folded folds own)) key.lower node
   IsMet Empty node = All IsNothing (children_of node)
+  IsMet (May anchor) node = ⊤
 
   -- both are tags, and children of the same node or of none
   pub record AreSiblings (m n : ℕ) : Type 0 where
@@ -88,8 +94,8 @@ module _ (nodes : List Node) where
 
   -- both are tags of one name, in any case
   abbrev pub AreNamesakes : ℕ → ℕ → Type 0
-  AreNamesakes m n = (name : List ℕ) × IsSomeAnd (slice_get nodes m) (IsMet (Name name))
-      × IsSomeAnd (slice_get nodes n) (IsMet (Name name))
+  AreNamesakes m n = (name : List ℕ) × IsSomeAnd (slice_get nodes m) (IsNamed name)
+      × IsSomeAnd (slice_get nodes n) (IsNamed name)
 
   -- m is among the tags that links of this kind lead to from n, and stands before it
   abbrev pub IsBefore : Link → ℕ → ℕ → Type 0

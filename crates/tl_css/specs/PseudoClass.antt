@@ -2,6 +2,8 @@
 use Rattle.std.specs.Prelude.{ℕ, Bool, true, false, ◌&&◌, ◌==◌, if◌then◌else◌, List, [], ◌∷◌, length, drop, Option, Some, None, codes, Ok, bytes_eq}
 use Rattle.std.specs.Str.{byte}
 use Rattle.tl_css.specs.declared.error.Cause.TheVariants.{Unclosed, NoFormula, NoPseudoClass, PseudoElement, NeedsArgument, TakesNone}
+use Rattle.tl_css.specs.declared.selector.Anchor.{Anchor}
+use Rattle.tl_css.specs.declared.selector.Anchor.TheVariants.{Root, Scope}
 use Rattle.tl_css.specs.declared.selector.Formula.{Formula}
 use Rattle.tl_css.specs.declared.selector.Link.{Link}
 use Rattle.tl_css.specs.declared.selector.Link.TheVariants.{Parent, Sibling, Twin}
@@ -12,7 +14,7 @@ use Rattle.tl_css.specs.declared.text.role.Role.{Role}
 use Rattle.tl_css.specs.declared.text.role.Role.TheVariants.{Is as IsRole, Not as NotRole, Has, NthOf}
 use Rattle.tl_css.specs.declared.text.role.PseudoClass.{PseudoClass}
 use Rattle.tl_css.specs.declared.text.role.PseudoClass.TheVariants as p
-use Rattle.tl_css.specs.Selector.{Any, Empty, Css, Is, Not, Both, At, Nth}
+use Rattle.tl_css.specs.Selector.{Any, Empty, May, Css, Is, Not, Both, At, Nth}
 use Rattle.tl_css.specs.Read.{Read, wrong, wrong_at, ◌>>=◌}
 use Rattle.tl_css.specs.Lexical.{run_at, begins, name_at, is_word, gap_at, lower_run}
 use Rattle.tl_css.specs.Formula.{formula_at}
@@ -24,6 +26,10 @@ edge way link = Not (At way link Once (Is Any))
 abbrev pub only : Link → Css
 only link = Both (edge From link) (edge To link)
 
+-- of the tags that may be this anchor the outermost: one whose parent may not be it
+abbrev pub outermost : Anchor → Css
+outermost anchor = Both (Is (May anchor)) (Not (At From Parent Once (Is (May anchor))))
+
 -- the pseudo-classes without an argument
 abbrev pub plain_class : List ℕ → Option PseudoClass
 plain_class word =
@@ -33,9 +39,10 @@ plain_class word =
     else (if bytes_eq word (codes "first-of-type") then Some (p.Edge From Twin)
     else (if bytes_eq word (codes "last-of-type") then Some (p.Edge To Twin)
     else (if bytes_eq word (codes "only-of-type") then Some (p.Only Twin)
-    else (if bytes_eq word (codes "root") then Some (p.Edge From Parent)
+    else (if bytes_eq word (codes "root") then Some (p.Outermost Root)
+    else (if bytes_eq word (codes "scope") then Some (p.Outermost Scope)
     else (if bytes_eq word (codes "empty") then Some p.Empty
-    else None)))))))
+    else None))))))))
 
 -- those of a formula
 abbrev pub nth_class : List ℕ → Option PseudoClass
@@ -105,6 +112,7 @@ argument_at s = if begins_argument s then Ok (length s, drop 1 s) else wrong s N
 abbrev pub class_at : PseudoClass → List ℕ → Read Simple
 class_at (p.Edge way link) s = whole_at (edge way link) s
 class_at (p.Only link) s = whole_at (only link) s
+class_at (p.Outermost anchor) s = whole_at (outermost anchor) s
 class_at p.Empty s = whole_at (Is Empty) s
 class_at (p.List role) s = argument_at s >>= λ opened. Ok (Opens role opened.0, opened.1)
 class_at (p.Nth way link) s = argument_at s >>= λ opened. nth_at opened.0 way link opened.1

@@ -3,6 +3,8 @@
 use Rattle.std.specs.Prelude.{◌≡◌, ℕ, Bool, true, false, List, [], ◌∷◌, Option, Some, None, codes, Ok}
 use Rattle.std.specs.Str.{byte, str_to_ascii_lowercase}
 use Rattle.tl_spec.specs.Lex.ByteClass.{is_quote}
+use Rattle.tl_css.specs.declared.selector.Anchor.{Anchor}
+use Rattle.tl_css.specs.declared.selector.Anchor.TheVariants.{Scope}
 use Rattle.tl_css.specs.declared.selector.Formula.{Formula}
 use Rattle.tl_css.specs.declared.selector.Link.{Link}
 use Rattle.tl_css.specs.declared.selector.Link.TheVariants.{Sibling}
@@ -11,11 +13,11 @@ use Rattle.tl_css.specs.declared.selector.Way.{Way}
 use Rattle.tl_css.specs.declared.text.role.Role.{Role}
 use Rattle.tl_css.specs.declared.text.role.Role.TheVariants.{NthOf}
 use Rattle.tl_css.specs.declared.text.role.PseudoClass.TheVariants as p
-use Rattle.tl_css.specs.Selector.{Test, Any, Name, Id, Class, Key, Value, Empty, Css, Is, Nth}
+use Rattle.tl_css.specs.Selector.{ident_of, Test, Any, Name, Id, Class, Key, Value, Empty, Css, Is, Nth}
 use Rattle.tl_css.specs.Lexical.{run_at, begins_name, name_at, gap_at}
 use Rattle.tl_css.specs.Attribute.{op_at}
 use Rattle.tl_css.specs.Formula.{formula_at}
-use Rattle.tl_css.specs.PseudoClass.{edge, only, pseudo_class, begins_argument}
+use Rattle.tl_css.specs.PseudoClass.{edge, only, outermost, pseudo_class, begins_argument}
 
 -- white space and comments, or nothing; whether there is white space
 abbrev pub GapStands : List ℕ → Bool → List ℕ → Type 0
@@ -44,13 +46,13 @@ pub data FlagStands : List ℕ → Bool → List ℕ → Type 0 where
 
 -- an attribute selector, after its `[`
 pub data AttributeStands : List ℕ → Test → List ℕ → Type 0 where
-  key : {s a b rest key : List ℕ} {v w : Bool} → GapStands s v a → WordStands a key b
-      → GapStands b w (byte "]" ∷ rest) → AttributeStands s (Key key) rest
+  key : {s a b rest key : List ℕ} {v w : Bool} → GapStands s v a → NameStands a key b
+      → GapStands b w (byte "]" ∷ rest) → AttributeStands s (Key (ident_of key)) rest
   value : {s a b c d e f g h rest key own : List ℕ} {t u v w folds : Bool} {op : Op}
-      → GapStands s t a → WordStands a key b → GapStands b u c → op_at c ≡ Ok (op, d)
+      → GapStands s t a → NameStands a key b → GapStands b u c → op_at c ≡ Ok (op, d)
       → GapStands d v e → ValueStands e own f → GapStands f w g → FlagStands g folds h
       → (x : Bool) → GapStands h x (byte "]" ∷ rest)
-      → AttributeStands s (Value key op own folds) rest
+      → AttributeStands s (Value (ident_of key) op own folds) rest
 
 -- a pseudo-class that has no list, after its `:`
 pub data PseudoStands : List ℕ → Css → List ℕ → Type 0 where
@@ -60,6 +62,9 @@ pub data PseudoStands : List ℕ → Css → List ℕ → Type 0 where
   only_class : {s word rest : List ℕ} {link : Link} → WordStands s word rest
       → pseudo_class word ≡ Some (p.Only link) → begins_argument rest ≡ false
       → PseudoStands s (only link) rest
+  anchor_class : {s word rest : List ℕ} {anchor : Anchor} → WordStands s word rest
+      → pseudo_class word ≡ Some (p.Outermost anchor) → begins_argument rest ≡ false
+      → PseudoStands s (outermost anchor) rest
   empty_class : {s word rest : List ℕ} → WordStands s word rest
       → pseudo_class word ≡ Some p.Empty → begins_argument rest ≡ false
       → PseudoStands s (Is Empty) rest
@@ -81,8 +86,10 @@ pub data ListBegins : List ℕ → Role → List ℕ → Type 0 where
 -- a simple selector that has no list; `true`: one that a compound may begin with, a type too
 pub data SimpleStands : Bool → List ℕ → Css → List ℕ → Type 0 where
   any : {s : List ℕ} → SimpleStands true (byte "*" ∷ s) (Is Any) s
-  type : {s word rest : List ℕ} → WordStands s word rest
-      → SimpleStands true s (Is (Name word)) rest
+  type : {s name rest : List ℕ} → NameStands s name rest
+      → SimpleStands true s (Is (Name (ident_of name))) rest
+  nesting : {first : Bool} {s : List ℕ}
+      → SimpleStands first (byte "&" ∷ s) (outermost Scope) s
   id : {first : Bool} {s name rest : List ℕ} → NameStands s name rest
       → SimpleStands first (byte "#" ∷ s) (Is (Id name)) rest
   class : {first : Bool} {s name rest : List ℕ} → NameStands s name rest

@@ -54,6 +54,15 @@ pub enum Way {
     To,
 }
 
+/// A tag that others are sought from.
+#[derive(Clone, Copy, PartialEq, Eq, Debug)]
+pub enum Anchor {
+    /// The root of the document.
+    Root,
+    /// What a search is made from.
+    Scope,
+}
+
 /// The numbers `a k + b`, for `k` from 0 on.
 #[derive(Clone, Copy, PartialEq, Eq, Debug)]
 pub struct Formula {
@@ -61,18 +70,29 @@ pub struct Formula {
     pub b: i64,
 }
 
-/// A test of a tag by itself. Names and keys are in lower case.
+/// A name or a key.
+#[derive(PartialEq, Eq, Debug, Drop)]
+pub struct Ident {
+    /// It in lower case.
+    pub lower: Vec<u8>,
+    /// It as it is written.
+    pub written: Vec<u8>,
+}
+
+/// A test of a tag by itself.
 #[derive(PartialEq, Eq, Debug, Drop)]
 pub enum Test {
     Any,
-    Name(Vec<u8>),
+    Name(Ident),
     Id(Vec<u8>),
     Class(Vec<u8>),
-    Key(Vec<u8>),
+    Key(Ident),
     /// The value at a key passes an op with another one; `true` folds ASCII case.
-    Value(Vec<u8>, Op, Vec<u8>, bool),
+    Value(Ident, Op, Vec<u8>, bool),
     /// It has no child but comments.
     Empty,
+    /// It may be this anchor. Where none is given, each tag may be.
+    May(Anchor),
 }
 
 /// A step over a stack of selectors.

@@ -204,6 +204,7 @@ childless (d.Class class) h e = cc
 childless (d.Key key) h e = cc
 childless (d.Value key op value folds) h e = cc
 childless d.Empty h e = false≢true h
+childless (d.May anchor) h e = cc
 
 -- no test of a compound asks for a child
 pub no_child : (place : ℕ) (step : Step) (t : Test) → fits place step ≡ true → test_in step ≡ Some t → test t ≡ s.Empty → ⊥

@@ -26,8 +26,8 @@ use Rattle.tl_css.specs.declared.selector.Way.{Way}
 use Rattle.tl_css.specs.declared.selector.Way.TheVariants.{From, To}
 use Rattle.tl_css.specs.declared.selector.Formula.{Formula}
 use Rattle.tl_css.specs.Bytes.{is_white}
-use Rattle.tl_css.specs.Meaning.{AreFound, AreLinks, AreNamesakes, AreSiblings, Holds, IsBefore, IsCount, IsForest, IsLink, IsMet, IsNothing, IsReached, IsTag, IsTerm, IsUpTo, Passes, StandsThere, folded, pairs_of}
-use Rattle.tl_css.specs.Selector.{Test, Any, Name, Id, Class, Key, Value, Empty, Css, Is, Not, Both, Either, At, Nth}
+use Rattle.tl_css.specs.Meaning.{AreFound, AreLinks, AreNamesakes, AreSiblings, Holds, IsBefore, IsCount, IsForest, IsLink, IsMet, IsNamed, IsNothing, IsReached, IsTag, IsTerm, IsUpTo, Passes, StandsThere, folded, pairs_of}
+use Rattle.tl_css.specs.Selector.{Test, Any, Name, Id, Class, Key, Value, Empty, May, Css, Is, Not, Both, Either, At, Nth}
 use Rattle.tl_css_select.specs.Below.{AreFoundBelow}
 use Rattle.tl_css_select.specs.Inner.Terms.{IsDistance, is_natural}
 use Rattle.tl_css_select.specs.Pair.{HasPair, IsPairMet}
@@ -178,9 +178,10 @@ pair_met Any key own = inr (λ h. h)
 pair_met (Name name) key own = inr (λ h. h)
 pair_met (Id id) key own = inr (λ h. h)
 pair_met (Class class) key own = inr (λ h. h)
-pair_met (Key wanted) key own = both (same (str_to_ascii_lowercase key) wanted) (inl tt)
-pair_met (Value wanted op value folds) key own = both (same (str_to_ascii_lowercase key) wanted) (passes op (folded folds value) (folded folds own))
+pair_met (Key wanted) key own = both (same (str_to_ascii_lowercase key) wanted.lower) (inl tt)
+pair_met (Value wanted op value folds) key own = both (same (str_to_ascii_lowercase key) wanted.lower) (passes op (folded folds value) (folded folds own))
 pair_met Empty key own = inr (λ h. h)
+pair_met (May anchor) key own = inr (λ h. h)
 
 has_pair : (t : Test) (pairs : List Pair) → IsTold (HasPair t pairs)
 has_pair t [] = inr (none_has t)
@@ -211,14 +212,18 @@ nothing (Some (Raw (b ∷ bytes))) = inr none
 nothing (Some (Comment bytes)) = inl (inr (bytes, refl))
 
 module _ (nodes : List Node) where
+  is_named : (name : List ℕ) (node : Node) → IsTold (IsNamed nodes name node)
+  is_named name node = of_some _ (λ own. same (str_to_ascii_lowercase own) name) (name_of node)
+
   is_met : (t : Test) (node : Node) → IsTold (IsMet nodes t node)
   is_met Any node = inl tt
-  is_met (Name name) node = of_some _ (λ own. same (str_to_ascii_lowercase own) name) (name_of node)
+  is_met (Name name) node = is_named name.lower node
   is_met (Id id) node = by_test (has_id id node) (λ h. h) (λ h. h)
   is_met (Class class) node = by_test (is_in_class class node) (λ h. h) (λ h. h)
   is_met (Key key) node = let is = key_is nodes node key in like is.0 is.1 (has_pair (Key key) (pairs_of node))
   is_met (Value key op value folds) node =
       let is = value_is nodes node key op value folds in like is.0 is.1 (has_pair (Value key op value folds) (pairs_of node))
+  is_met (May anchor) node = inl tt
   is_met Empty node =
       let cs : List ℕ = children_of node in
       like (λ h. All-from_get_or (IsNothing nodes) cs 0 h) (λ all k w. all k 0 w)
@@ -248,13 +253,13 @@ module _ (nodes : List Node) where
   namesakes m n = by_node (slice_get nodes m) (slice_get nodes n)
     where
       by_name : (o : Option (List ℕ)) (q : Option Node) →
-          IsTold ((name : List ℕ) × IsSomeAnd o (λ own. str_to_ascii_lowercase own ≡ name) × IsSomeAnd q (IsMet nodes (Name name)))
+          IsTold ((name : List ℕ) × IsSomeAnd o (λ own. str_to_ascii_lowercase own ≡ name) × IsSomeAnd q (IsNamed nodes name))
       by_name None q = inr (λ h. h.1)
       by_name (Some own) q =
-          like (λ h. (str_to_ascii_lowercase own, refl, h)) (λ h. subst (λ name. IsSomeAnd q (IsMet nodes (Name name))) (sym h.1) h.2)
-          (of_some (IsMet nodes (Name (str_to_ascii_lowercase own))) (λ node. is_met (Name (str_to_ascii_lowercase own)) node) q)
+          like (λ h. (str_to_ascii_lowercase own, refl, h)) (λ h. subst (λ name. IsSomeAnd q (IsNamed nodes name)) (sym h.1) h.2)
+          (of_some (IsNamed nodes (str_to_ascii_lowercase own)) (λ node. is_named (str_to_ascii_lowercase own) node) q)
 
-      by_node : (o q : Option Node) → IsTold ((name : List ℕ) × IsSomeAnd o (IsMet nodes (Name name)) × IsSomeAnd q (IsMet nodes (Name name)))
+      by_node : (o q : Option Node) → IsTold ((name : List ℕ) × IsSomeAnd o (IsNamed nodes name) × IsSomeAnd q (IsNamed nodes name))
       by_node None q = inr (λ h. h.1)
       by_node (Some node) q = by_name (name_of node) q
 

@@ -16,8 +16,8 @@ use Rattle.tl_css.specs.declared.selector.Op.TheVariants.{Equals, Word, Starts, 
 use Rattle.tl_css.specs.Bytes.{is_white, is_name_byte}
 use Rattle.tl_css.specs.Lexical.{begins_comment, begins_name, gap_part_at, is_plain, part_at, run_at}
 use Rattle.tl_css.specs.Attribute.{op_at}
-use Rattle.tl_css.specs.Selector.{Is, Key, Value}
-use Rattle.tl_css.specs.SimpleGrammar.{GapStands, NameStands, WordStands, word, ValueStands, bare, quoted, no_flag, AttributeStands, key, value}
+use Rattle.tl_css.specs.Selector.{Is, Key, Value, ident_of}
+use Rattle.tl_css.specs.SimpleGrammar.{GapStands, NameStands, ValueStands, bare, quoted, no_flag, AttributeStands, key, value}
 use Rattle.tl_css.proofs.Runs.{run_none, run_some, gap_from, gap_some, gap_none, gap_first}
 use Rattle.tl_css_select.specs.Plain.{css_of}
 use Rattle.tl_css_select.specs.Shared.{is_shared_byte, is_shared_name, is_lower_name, is_shared, begins_shared_value, has_shared_values}
@@ -56,9 +56,6 @@ name_stands name rest h e =
 
 pub lower_is_name : (name : List ℕ) → is_lower_name name ≡ true → is_shared_name name ≡ true
 lower_is_name name h = (and_parts (is_shared_name name) (bytes_eq (str_to_ascii_lowercase name) name) h).0
-
-pub word_stands : (name rest : List ℕ) → is_lower_name name ≡ true → NoMore None rest → WordStands (name ++ rest) (str_to_ascii_lowercase name) rest
-word_stands name rest h e = word (name_stands name rest (lower_is_name name h) e)
 
 -- Gaps
 
@@ -164,7 +161,7 @@ value_rest (port.quoted {s = u} {v = v} {rest = rest} {q = q} y r) h =
 
 -- the op of CSS that asks the same
 pub op_stands : {op : List ℕ} {gives : List ℕ → List ℕ → Selector} → port.OpGives op gives → (u : List ℕ)
-    → (own : Op) × (op_at (op ++ u) ≡ Ok (own, u)) × ((k v : List ℕ) → css_of (gives k v) ≡ Is (Value (str_to_ascii_lowercase k) own v false))
+    → (own : Op) × (op_at (op ++ u) ≡ Ok (own, u)) × ((k v : List ℕ) → css_of (gives k v) ≡ Is (Value (ident_of k) own v false))
 op_stands port.equal u = (Equals, refl, λ k v. refl)
 op_stands port.has_part u = (Word, refl, λ k v. refl)
 op_stands port.starts u = (Starts, refl, λ k v. refl)
@@ -195,13 +192,13 @@ op_key port.contains k v h = (and_parts (is_lower_name k) (has_bytes v) h).0
 
 -- Brackets
 
-pub key_stands : (k rest : List ℕ) → is_lower_name k ≡ true → AttributeStands (k ++ 93 ∷ rest) (Key (str_to_ascii_lowercase k)) rest
+pub key_stands : (k rest : List ℕ) → is_lower_name k ≡ true → AttributeStands (k ++ 93 ∷ rest) (Key (ident_of k)) rest
 key_stands k rest h =
-    key (gap_stands (k ++ 93 ∷ rest) (name_solid k (93 ∷ rest) (lower_is_name k h))) (word_stands k (93 ∷ rest) h refl) (gap_stands (93 ∷ rest) (refl, refl))
+    key (gap_stands (k ++ 93 ∷ rest) (name_solid k (93 ∷ rest) (lower_is_name k h))) (name_stands k (93 ∷ rest) (lower_is_name k h) refl) (gap_stands (93 ∷ rest) (refl, refl))
 
 pub test_stands : {op u v rest : List ℕ} {gives : List ℕ → List ℕ → Selector} (k : List ℕ) → is_lower_name k ≡ true → (g : port.OpGives op gives)
-    → ValueStands u v (93 ∷ rest) → Solid u → AttributeStands (k ++ (op ++ u)) (Value (str_to_ascii_lowercase k) (op_stands g u).0 v false) rest
+    → ValueStands u v (93 ∷ rest) → Solid u → AttributeStands (k ++ (op ++ u)) (Value (ident_of k) (op_stands g u).0 v false) rest
 test_stands {op} {u} {v} {rest} k h g own solid =
     let after = op_solid g u in
-    value (gap_stands (k ++ (op ++ u)) (name_solid k (op ++ u) (lower_is_name k h))) (word_stands k (op ++ u) h after.1) (gap_stands (op ++ u) after.0)
+    value (gap_stands (k ++ (op ++ u)) (name_solid k (op ++ u) (lower_is_name k h))) (name_stands k (op ++ u) (lower_is_name k h) after.1) (gap_stands (op ++ u) after.0)
     (op_stands g u).1 (gap_stands u solid) own (gap_stands (93 ∷ rest) (refl, refl)) (no_flag refl) false (gap_stands (93 ∷ rest) (refl, refl))

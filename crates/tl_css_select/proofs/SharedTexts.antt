@@ -15,14 +15,14 @@ use Rattle.tl_spec.specs.Select.Text as port
 use Rattle.tl_spec.proofs.Lex.Bytes.{passes}
 use Rattle.tl_spec.proofs.Print.Lossy.{lossy-ident, lossy-IsUtf8}
 use Rattle.tl_spec.proofs.Select.Text.{text-only}
-use Rattle.tl_css.specs.Selector.{Css, Is, Any, Key}
+use Rattle.tl_css.specs.Selector.{Css, Is, Any, Key, ident_of}
 use Rattle.tl_css.specs.SimpleGrammar.{GapStands, NameStands, AttributeStands, SimpleStands, any, type, id, class, attribute}
 use Rattle.tl_css.specs.Grammar.{marked, spaced, IsSelector}
 use Rattle.tl_css.specs.Reading.{css_at}
 use Rattle.tl_css_select.specs.Plain.{IsLower, IsPlain, css_of}
 use Rattle.tl_css_select.specs.Shared.{is_shared_name, is_lower_name, is_type, is_shared, has_shared_values, is_shared_text}
 use Rattle.tl_css_select.proofs.FlatSelectors.{Flat, Flats, flat_first, flat_next, flat_joined, flats_first, flats_next, flats_stand, flats_are_read}
-use Rattle.tl_css_select.proofs.SharedRuns.{NoMore, Solid, name_stands, lower_is_name, word_stands, gap_stands, white_stands, spaces_stand, spaces_end, name_solid, values_after, value_stands, value_rest, op_stands, op_value, op_key, key_stands, test_stands}
+use Rattle.tl_css_select.proofs.SharedRuns.{NoMore, Solid, name_stands, lower_is_name, gap_stands, white_stands, spaces_stand, spaces_end, name_solid, values_after, value_stands, value_rest, op_stands, op_value, op_key, key_stands, test_stands}
 
 abbrev HasShared : List ℕ → Type 0
 HasShared s = has_shared_values s ≡ true
@@ -36,9 +36,9 @@ simple_stands first (port.class_part {s = s} {i = i} {rest = rest} r) t sh v e =
 simple_stands first (port.all_part {rest = rest}) t sh v e = subst (λ (first : Bool). SimpleStands first (42 ∷ rest) (Is Any) rest) (sym (t refl)) any
 simple_stands first (port.tag_part {s = s} {i = i} {rest = rest} n r) t sh v e =
     subst (λ (first : Bool). SimpleStands first s (css_of (Tag i)) rest) (sym (t refl))
-    (subst (λ (s : List ℕ). SimpleStands true s (css_of (Tag i)) rest) (sym r.parts) (type (word_stands i rest sh e)))
+    (subst (λ (s : List ℕ). SimpleStands true s (css_of (Tag i)) rest) (sym r.parts) (type (name_stands i rest (lower_is_name i sh) e)))
 simple_stands first (port.key_part {s = s} {k = k} {rest = rest} r) t sh v e =
-    attribute (subst (λ (s : List ℕ). AttributeStands s (Key (str_to_ascii_lowercase k)) rest) (sym r.parts) (key_stands k rest sh))
+    attribute (subst (λ (s : List ℕ). AttributeStands s (Key (ident_of k)) rest) (sym r.parts) (key_stands k rest sh))
 simple_stands first (port.value_part {s = s} {k = k} {op = op} {u = u} {v = own} {rest = rest} {gives = gives} r g w) t sh v e =
     let values = op_value g u (values_after k (op ++ u) (subst HasShared r.parts v)) in
     let low = op_key g k own sh in

@@ -6,7 +6,7 @@ use Rattle.tl_css.specs.Meaning.{IsMet, pairs_of}
 use Rattle.tl_css.specs.View.{test}
 use Rattle.tl_css.specs.declared.selector.Op.{Op}
 use Rattle.tl_css.specs.declared.selector.Test.{Test}
-use Rattle.tl_css.specs.declared.selector.Test.TheVariants.{Any, Name, Id, Class, Key, Value, Empty}
+use Rattle.tl_css.specs.declared.selector.Test.TheVariants.{Any, Name, Id, Class, Key, Value, Empty, May}
 use Rattle.tl_css_select.specs.Pair.{HasPair}
 
 pub empty_test : (t : Test) → test t ≡ s.Empty → t ≡ Empty
@@ -17,12 +17,13 @@ empty_test (Class class) e = cc
 empty_test (Key key) e = cc
 empty_test (Value key op value folds) e = cc
 empty_test Empty e = refl
+empty_test (May anchor) e = cc
 
 module _ (nodes : List Node) (node : Node) where
-  pub key_is : (key : List ℕ) → HasPair (s.Key key) (pairs_of node) ↔ IsMet nodes (s.Key key) node
+  pub key_is : (key : s.Ident) → HasPair (s.Key key) (pairs_of node) ↔ IsMet nodes (s.Key key) node
   key_is key = (λ h. (h.0, h.1, h.2.0, h.2.1), λ h. (h.0, h.1, (h.2, h.3)))
 
-  pub value_is : (key : List ℕ) (op : Op) (value : List ℕ) (folds : Bool) → HasPair (s.Value key op value folds) (pairs_of node) ↔ IsMet nodes (s.Value key op value folds) node
+  pub value_is : (key : s.Ident) (op : Op) (value : List ℕ) (folds : Bool) → HasPair (s.Value key op value folds) (pairs_of node) ↔ IsMet nodes (s.Value key op value folds) node
   value_is key op value folds = (λ h. (h.0, h.1, h.2.0, h.2.1), λ h. (h.0, h.1, (h.2, h.3)))
 
   -- a test that asks for a key passes where the pairs meet it

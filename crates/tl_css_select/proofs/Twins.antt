@@ -15,8 +15,7 @@ use Rattle.std.proofs.lemmas.Bool.{false≢true}
 use Rattle.tl_spec.specs.Tree.Document.{Node}
 use Rattle.tl_spec.specs.Tree.Element.{name_of}
 use Rattle.tl_css.specs.declared.selector.Link.TheVariants.{Twin}
-use Rattle.tl_css.specs.Selector.{Name}
-use Rattle.tl_css.specs.Meaning.{AreNamesakes, IsMet}
+use Rattle.tl_css.specs.Meaning.{AreNamesakes, IsNamed}
 use Rattle.tl_css_select.specs.declared.twin.TwinGroup.{TwinGroup}
 use Rattle.tl_css_select.specs.Links.{AreGrouped, IsLatest, link_at, link_or_none, no_link}
 use Rattle.tl_css_select.specs.Kin.{AreLinksOf, AreSiblingGroups, name_at, twin_group}
@@ -51,11 +50,11 @@ unlike g q e same =
 
 -- Twins are those of one group
 
-named_by : (nodes : List Node) (o : Option Node) (own name : List ℕ) → option_and_then name_of o ≡ Some own → str_to_ascii_lowercase own ≡ name → IsSomeAnd o (IsMet nodes (Name name))
+named_by : (nodes : List Node) (o : Option Node) (own name : List ℕ) → option_and_then name_of o ≡ Some own → str_to_ascii_lowercase own ≡ name → IsSomeAnd o (IsNamed nodes name)
 named_by nodes None own name e is = cc
 named_by nodes (Some node) own name e is = subst (λ (o : Option (List ℕ)). IsSomeAnd o (λ own. str_to_ascii_lowercase own ≡ name)) (sym e) is
 
-by_named : (nodes : List Node) (o : Option Node) (name : List ℕ) → IsSomeAnd o (IsMet nodes (Name name)) → option_map str_to_ascii_lowercase (option_and_then name_of o) ≡ Some name
+by_named : (nodes : List Node) (o : Option Node) (name : List ℕ) → IsSomeAnd o (IsNamed nodes name) → option_map str_to_ascii_lowercase (option_and_then name_of o) ≡ Some name
 by_named nodes None name h = absurd h
 by_named nodes (Some node) name h = lowered (name_of node) h
   where
@@ -66,7 +65,7 @@ by_named nodes (Some node) name h = lowered (name_of node) h
 -- a group by its parts
 pub record IsTwinGroup (nodes : List Node) (groups : List ℕ) (n : ℕ) (g : ℕ × List ℕ) : Type 0 where
   pub siblings : link_at groups n ≡ Some g.0
-  pub named : IsSomeAnd (slice_get nodes n) (IsMet nodes (Name g.1))
+  pub named : IsSomeAnd (slice_get nodes n) (IsNamed nodes g.1)
 
 group_by : (nodes : List Node) (groups : List ℕ) (n : ℕ) (s : Option ℕ) (a : Option (List ℕ)) (g : ℕ × List ℕ) → link_at groups n ≡ s → name_at nodes n ≡ a
     → option_and_then (λ g. option_map (λ name. (g, str_to_ascii_lowercase name)) a) s ≡ Some g → IsTwinGroup nodes groups n g
@@ -93,7 +92,7 @@ lowered_at (Some own) s g z e = let same : str_to_ascii_lowercase own ≡ g.1 = 
     pair_is : (s : ℕ) (w : List ℕ) (g : ℕ × List ℕ) → s ≡ g.0 → w ≡ g.1 → (s, w) ≡ g
     pair_is s w (a, b) e f = λ i. (e i, f i)
 
-has_group : (nodes : List Node) (groups : List ℕ) (n : ℕ) (g : ℕ × List ℕ) → link_at groups n ≡ Some g.0 → IsSomeAnd (slice_get nodes n) (IsMet nodes (Name g.1)) → twin_group nodes groups n ≡ Some g
+has_group : (nodes : List Node) (groups : List ℕ) (n : ℕ) (g : ℕ × List ℕ) → link_at groups n ≡ Some g.0 → IsSomeAnd (slice_get nodes n) (IsNamed nodes g.1) → twin_group nodes groups n ≡ Some g
 unfolding paired
 has_group nodes groups n g e h =
     ap (λ (o : Option ℕ). option_and_then (λ s. option_map (paired s) (name_at nodes n)) o) e

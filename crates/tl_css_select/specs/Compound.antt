@@ -5,7 +5,7 @@ use Rattle.tl_spec.specs.Tree.Document.{Node}
 use Rattle.tl_css.specs.declared.selector.Step.{Step}
 use Rattle.tl_css.specs.declared.selector.Step.TheVariants.{Ask, Keep, Turn, Meet, Unite, Shift, Count}
 use Rattle.tl_css.specs.declared.selector.Test.{Test}
-use Rattle.tl_css.specs.declared.selector.Test.TheVariants.{Any, Name, Id, Class, Key, Value, Empty}
+use Rattle.tl_css.specs.declared.selector.Test.TheVariants.{Any, Name, Id, Class, Key, Value, Empty, May}
 use Rattle.tl_css.specs.Meaning.{Holds}
 use Rattle.tl_css.specs.Selector.{Is}
 use Rattle.tl_css.specs.View.{test}
@@ -29,6 +29,7 @@ is_childless (Class class) = true
 is_childless (Key key) = true
 is_childless (Value key op value folds) = true
 is_childless Empty = false
+is_childless (May anchor) = true
 
 -- a step asks for such a test, or keeps it
 

@@ -16,11 +16,11 @@ use Rattle.tl_css.specs.declared.selector.Reach.TheVariants.{Once, Often}
 use Rattle.tl_css.specs.declared.selector.Way.TheVariants.{From}
 use Rattle.tl_css.specs.Bytes.{is_white}
 use Rattle.tl_css.specs.Meaning.{pairs_of}
-use Rattle.tl_css.specs.Selector.{Any, Name, Id as IdIs, Class as ClassHas, Key, Value, Css, Is, Both, Either, At}
+use Rattle.tl_css.specs.Selector.{Any, Name, Id as IdIs, Class as ClassHas, Key, Value, ident_of, Css, Is, Both, Either, At}
 
--- the selector of CSS that asks the same, in the lower case that CSS reads names and keys in
+-- the selector of CSS that asks the same, by the same names and keys
 abbrev pub css_of : Selector → Css
-css_of (Tag name) = Is (Name (str_to_ascii_lowercase name))
+css_of (Tag name) = Is (Name (ident_of name))
 css_of (Id id) = Is (IdIs id)
 css_of (Class member) = Is (ClassHas member)
 css_of Every = Is Any
@@ -28,15 +28,15 @@ css_of (And a b) = Both (css_of a) (css_of b)
 css_of (Or a b) = Either (css_of a) (css_of b)
 css_of (Descendant a b) = Both (At From Parent Often (css_of a)) (css_of b)
 css_of (ChildOf a b) = Both (At From Parent Once (css_of a)) (css_of b)
-css_of (Attribute key) = Is (Key (str_to_ascii_lowercase key))
-css_of (AttributeValue key value) = Is (Value (str_to_ascii_lowercase key) Equals value false)
+css_of (Attribute key) = Is (Key (ident_of key))
+css_of (AttributeValue key value) = Is (Value (ident_of key) Equals value false)
 css_of (AttributeValueWhitespacedContains key value) =
-    Is (Value (str_to_ascii_lowercase key) Word value false)
+    Is (Value (ident_of key) Word value false)
 css_of (AttributeValueStartsWith key value) =
-    Is (Value (str_to_ascii_lowercase key) Starts value false)
-css_of (AttributeValueEndsWith key value) = Is (Value (str_to_ascii_lowercase key) Ends value false)
+    Is (Value (ident_of key) Starts value false)
+css_of (AttributeValueEndsWith key value) = Is (Value (ident_of key) Ends value false)
 css_of (AttributeValueSubstring key value) =
-    Is (Value (str_to_ascii_lowercase key) Inside value false)
+    Is (Value (ident_of key) Inside value false)
 
 abbrev pub IsLower : List ℕ → Type 0
 IsLower bytes = str_to_ascii_lowercase bytes ≡ bytes

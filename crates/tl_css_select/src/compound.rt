@@ -5,7 +5,7 @@ ghost use Rattle.std.specs.Option.{option_copied};
 ghost use Rattle.tl_css.specs.Meaning.{AreFound, Holds};
 ghost use Rattle.tl_css.specs.Program.{selector_of};
 ghost use Rattle.tl_css.specs.Selector.{Class, Empty, Id, Is, Name};
-ghost use Rattle.tl_css.specs.View.{test as test_of};
+ghost use Rattle.tl_css.specs.View.{ident, test as test_of};
 ghost use Rattle.tl_css_select.specs.Compound.{AreBelow, HoldsAt, IsCompound, OthersHold, fits, is_asked, is_childless, is_kept, test_in};
 ghost use Rattle.tl_css_select.specs.Kin.{is_tag};
 ghost use Rattle.tl_css_select.specs.Seen.{seen_nodes};
@@ -17,7 +17,7 @@ use crate::spelling::Spelling;
 use crate::styled::Styled;
 use std::alloc::{AllocError, Global};
 use tl::Node;
-use tl_css::selector::{Step, Test};
+use tl_css::selector::{Ident, Step, Test};
 
 fn is_childless(test: &Test) -> bool
     ensures { result ≡ is_childless test.now }
@@ -119,13 +119,13 @@ fn is_named_at(
     spelling: Spelling,
     nodes: &[Node<'_>],
     number: usize,
-    name: &[u8],
+    name: &Ident,
 ) -> Result<bool, AllocError>
     ensures { IfOk result (λ named. (named ≡ true)
-        ↔ Holds (seen_nodes spelling nodes.now) (Is (Name name.now)) number) }
+        ↔ Holds (seen_nodes spelling nodes.now) (Is (Name (ident name.now))) number) }
 {
     match nodes.get(number) {
-        Some(node) if is_tag_as(spelling, node) => is_named(alloc, spelling, node, name),
+        Some(node) if is_tag_as(spelling, node) => is_named(alloc, spelling, node, &name.lower),
         _ => Ok(false),
     }
 }
@@ -253,14 +253,14 @@ fn named(
     alloc: Global,
     spelling: Spelling,
     nodes: &[Node<'_>],
-    name: &[u8],
+    name: &Ident,
     steps: &[Step],
     but: usize,
 ) -> Result<Vec<u32>, AllocError>
     requires numbered { length nodes.now < 2 ^ 32 }
     requires compound { IsCompound steps.now }
     ensures { IfOk result (λ ns. let all = seen_nodes spelling nodes.now in
-        AreBelow (λ n. Holds all (Is (Name name.now)) n × OthersHold all steps.now but n)
+        AreBelow (λ n. Holds all (Is (Name (ident name.now))) n × OthersHold all steps.now but n)
         (length all) ns.items) }
 {
     let mut numbers = Vec::new(alloc);

@@ -3,7 +3,7 @@ ghost use Rattle.std.specs.Prelude.{◌≡◌, Err, Ok, Some, [], codes, false, 
 ghost use Rattle.tl_spec.specs.Select.Reading.{selector_at};
 ghost use Rattle.tl_spec.specs.Select.Selector.{And, Attribute, Id as CrateId, Tag};
 ghost use Rattle.tl_css.specs.Reading.{css_at};
-ghost use Rattle.tl_css.specs.Selector.{At, Both, Is, Name};
+ghost use Rattle.tl_css.specs.Selector.{At, Both, Is, Name, ident_of};
 ghost use Rattle.tl_css.specs.declared.error.Cause.TheVariants.{NoName, Unexpected};
 ghost use Rattle.tl_css.specs.declared.selector.Link.TheVariants.{Sibling};
 ghost use Rattle.tl_css.specs.declared.selector.Reach.TheVariants.{Once};
@@ -89,9 +89,10 @@ pub fn no_selectors_of_the_crate()
 pub fn texts_read_otherwise()
     ensures name { selector_at (codes "a+b") ≡ Some (Tag (codes "a+b")) }
     ensures siblings { css_at (codes "a+b")
-        ≡ Ok (Both (At From Sibling Once (Is (Name (codes "a")))) (Is (Name (codes "b")))) }
+        ≡ Ok (Both (At From Sibling Once (Is (Name (ident_of (codes "a")))))
+        (Is (Name (ident_of (codes "b"))))) }
     ensures capital { selector_at (codes "P") ≡ Some (Tag (codes "P")) }
-    ensures lower_case { css_at (codes "P") ≡ Ok (Is (Name (codes "p"))) }
+    ensures lower_case { css_at (codes "P") ≡ Ok (Is (Name (ident_of (codes "P")))) }
     ensures empty_id { selector_at (codes "#") ≡ Some (CrateId []) }
     ensures no_id { css_at (codes "#") ≡ Err (1, NoName) }
     ensures later_type { selector_at (codes "[a]b")

@@ -141,12 +141,13 @@ pub fn passes_as(
 {
     match test {
         Test::Any => Ok(true),
-        Test::Name(name) => is_named(alloc, spelling, node, name),
+        Test::Name(name) => is_named(alloc, spelling, node, &name.lower),
         Test::Id(id) => has_id(alloc, spelling, node, id),
         Test::Class(class) => is_in_class(alloc, spelling, node, class),
         Test::Key(_) => has_key(alloc, spelling, node, test),
         Test::Value(_, _, _, _) => has_key(alloc, spelling, node, test),
         Test::Empty => Ok(false),
+        Test::May(_) => Ok(true),
     }
 }
 

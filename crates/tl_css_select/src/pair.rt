@@ -39,9 +39,9 @@ fn is_pair_met(
 {
     let key = said_name(alloc, spelling, key)?;
     match test {
-        Test::Key(wanted) => Ok(is_lowercase(wanted, key.as_bytes())),
+        Test::Key(wanted) => Ok(is_lowercase(&wanted.lower, key.as_bytes())),
         Test::Value(wanted, op, value, folds) => {
-            if !is_lowercase(wanted, key.as_bytes()) {
+            if !is_lowercase(&wanted.lower, key.as_bytes()) {
                 return Ok(false);
             }
             let own = said_value(alloc, spelling, own)?;

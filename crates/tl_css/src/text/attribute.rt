@@ -1,7 +1,7 @@
 //! Attribute selectors.
 ghost use Rattle.std.specs.Prelude.{◌≡◌, option_map};
 ghost use Rattle.tl_css.specs.Attribute.{attribute_at, after_key, begins_namespace, close_at, flag_at, key_at, match_at, op_at, op_of, string_by, value_at};
-ghost use Rattle.tl_css.specs.Lexical.{lower_run, run_at};
+ghost use Rattle.tl_css.specs.Lexical.{run_at, ident_run};
 ghost use Rattle.tl_css.specs.Read.{after_byte};
 ghost use Rattle.tl_css.specs.TextView.{read_as, rest_as};
 ghost use Rattle.tl_css.specs.SimpleView.{run_text, test_text};
@@ -50,7 +50,7 @@ fn begins_namespace(s: &[u8]) -> bool
 }
 
 fn key(s: &[u8]) -> Result<(&[u8], &[u8]), Wrong>
-    ensures { read_as (λ key. lower_run key.now) result ≡ key_at s.now }
+    ensures { read_as (λ key. ident_run key.now) result ≡ key_at s.now }
 {
     if begins_namespace(s) {
         return wrong(s, Cause::Namespace);
@@ -166,7 +166,7 @@ fn match_text<'a>(
     op: Op,
     s: &'a [u8],
 ) -> Result<(TestText<'a>, &'a [u8]), Wrong>
-    ensures { read_as test_text result ≡ match_at opened (lower_run key.now) op s.now }
+    ensures { read_as test_text result ≡ match_at opened (ident_run key.now) op s.now }
 {
     let (_white, s) = gap(s)?;
     let (value, s) = value(opened, s)?;
@@ -182,7 +182,7 @@ fn after_key<'a>(
     key: &'a [u8],
     s: &'a [u8],
 ) -> Result<(TestText<'a>, &'a [u8]), Wrong>
-    ensures { read_as test_text result ≡ after_key opened (lower_run key.now) s.now }
+    ensures { read_as test_text result ≡ after_key opened (ident_run key.now) s.now }
 {
     match s {
         [] => Err(Wrong {

@@ -6,6 +6,7 @@ ghost use Rattle.tl_css.specs.SimpleView.{simple};
 ghost use Rattle.tl_css.specs.TextView.{read_as};
 
 use crate::error::{Cause, Wrong};
+use crate::selector::Anchor;
 use crate::text::attribute::{TestText, attribute};
 use crate::text::gap::{gap, wrong};
 use crate::text::pseudo_class::{Simple, Whole, pseudo};
@@ -53,6 +54,9 @@ fn simple_after(s: &[u8]) -> Result<(Simple<'_>, &[u8]), Wrong>
     if *first == b'.' {
         let (class, rest) = name(rest)?;
         return Ok((Simple::Whole(Whole::Test(TestText::Class(class))), rest));
+    }
+    if *first == b'&' {
+        return Ok((Simple::Whole(Whole::Outermost(Anchor::Scope)), rest));
     }
     wrong(s, unexpected(*first))
 }

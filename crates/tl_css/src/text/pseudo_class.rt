@@ -8,7 +8,7 @@ ghost use Rattle.tl_css.specs.SimpleView.{simple, whole};
 ghost use Rattle.tl_css.specs.PseudoClass as p;
 
 use crate::error::{Cause, Wrong};
-use crate::selector::{Formula, Link, Way};
+use crate::selector::{Anchor, Formula, Link, Way};
 use crate::text::attribute::TestText;
 use crate::text::formula::formula;
 use crate::text::gap::{gap, wrong};
@@ -21,6 +21,7 @@ pub enum Whole<'a> {
     Test(TestText<'a>),
     Edge(Way, Link),
     Only(Link),
+    Outermost(Anchor),
     Nth(Way, Link, Formula),
 }
 
@@ -49,7 +50,9 @@ fn plain_class(word: &[u8]) -> Option<PseudoClass>
     } else if is_word(word, b"only-of-type") {
         Some(PseudoClass::Only(Link::Twin))
     } else if is_word(word, b"root") {
-        Some(PseudoClass::Edge(Way::From, Link::Parent))
+        Some(PseudoClass::Outermost(Anchor::Root))
+    } else if is_word(word, b"scope") {
+        Some(PseudoClass::Outermost(Anchor::Scope))
     } else if is_word(word, b"empty") {
         Some(PseudoClass::Empty)
     } else {
@@ -185,6 +188,7 @@ fn class(class: PseudoClass, s: &[u8]) -> Result<(Simple<'_>, &[u8]), Wrong>
     match class {
         PseudoClass::Edge(way, link) => without_argument(Whole::Edge(way, link), s),
         PseudoClass::Only(link) => without_argument(Whole::Only(link), s),
+        PseudoClass::Outermost(anchor) => without_argument(Whole::Outermost(anchor), s),
         PseudoClass::Empty => without_argument(Whole::Test(TestText::Empty), s),
         PseudoClass::List(role) => {
             let (opened, rest) = argument(s)?;

@@ -3,7 +3,7 @@ ghost use Rattle.std.specs.Prelude.{◌≡◌};
 ghost use Rattle.tl_css.specs.Item.{is_relative, is_top};
 ghost use Rattle.tl_css.specs.Reading.{link_of, reach_of};
 
-use crate::selector::{Formula, Link, Reach, Way};
+use crate::selector::{Anchor, Formula, Link, Reach, Way};
 
 /// What a list of selectors is for.
 #[derive(Clone, Copy, PartialEq, Eq, Debug)]
@@ -39,6 +39,8 @@ pub enum PseudoClass {
     Edge(Way, Link),
     /// Both at once.
     Only(Link),
+    /// The outermost tag that may be this anchor.
+    Outermost(Anchor),
     Empty,
     List(Role),
     Nth(Way, Link),

@@ -2,10 +2,12 @@
 ghost use Rattle.std.specs.Prelude.{◌≡◌, ◌≤◌, ◌++◌, ℕ, IfOk, OnOk, length, option_map, drop, take, Some, None, Option, encode_utf8};
 ghost use Rattle.std.specs.List.{take_while};
 ghost use Rattle.tl_css.specs.Bytes.{char_of, hex_number, hex_value, is_hex};
-ghost use Rattle.tl_css.specs.Lexical.{begins_name, escape_at, escaped_at, is_plain, is_word, lower_run, name_at, part_at, past_escape, past_white, run_at};
+ghost use Rattle.tl_css.specs.Lexical.{begins_name, escape_at, escaped_at, is_plain, is_word, name_at, part_at, past_escape, past_white, run_at, ident_run};
 ghost use Rattle.tl_css.specs.TextView.{part_bytes, read_as, without};
+ghost use Rattle.tl_css.specs.View.{ident};
 
 use crate::error::{Cause, Wrong};
+use crate::selector::Ident;
 use crate::text::byte_class::{is_hex, is_name_byte, is_newline, is_string_byte, is_white};
 use crate::text::gap::wrong;
 use std::alloc::{AllocError, Global};
@@ -177,13 +179,14 @@ pub fn run_text(alloc: Global, quote: Option<u8>, s: &[u8]) -> Result<Vec<u8>, A
     Ok(text)
 }
 
-// What a name stands for, in lower case.
-pub fn lower_text(alloc: Global, s: &[u8]) -> Result<Vec<u8>, AllocError>
-    ensures { IfOk result (λ text. text.items ≡ lower_run s.now) }
+/// A name or a key that begins here.
+pub fn ident_text(alloc: Global, s: &[u8]) -> Result<Ident, AllocError>
+    ensures { IfOk result (λ own. ident own ≡ ident_run s.now) }
 {
-    let mut text = run_text(alloc, None, s)?;
-    text.make_ascii_lowercase();
-    Ok(text)
+    let written = run_text(alloc, None, s)?;
+    let mut lower = Vec::from_slice(alloc, &written)?;
+    lower.make_ascii_lowercase();
+    Ok(Ident { lower, written })
 }
 
 // What is left of a keyword after these bytes, in any case.

@@ -12,13 +12,13 @@ ghost use Rattle.tl_css.specs.StateView.{open_list, state};
 ghost use Rattle.tl_css.specs.View.{test};
 
 use crate::error::{Cause, Failure, Wrong};
-use crate::selector::{Link, Reach, Selector, Test, Way};
+use crate::selector::{Anchor, Link, Reach, Selector, Test, Way};
 use crate::text::attribute::{Run, TestText};
 use crate::text::item::Item;
 use crate::text::program::Program;
 use crate::text::pseudo_class::{Simple, Whole};
 use crate::text::role::{Before, Combinator, Role};
-use crate::text::run::{lower_text, run_text};
+use crate::text::run::{ident_text, run_text};
 use std::alloc::{AllocError, Global};
 
 /// A list of complex selectors that is being read.
@@ -64,12 +64,12 @@ fn decode_test(alloc: Global, own: TestText<'_>) -> Result<Test, AllocError>
 {
     Ok(match own {
         TestText::Any => Test::Any,
-        TestText::Name(name) => Test::Name(lower_text(alloc, name)?),
+        TestText::Name(name) => Test::Name(ident_text(alloc, name)?),
         TestText::Id(id) => Test::Id(run_text(alloc, None, id)?),
         TestText::Class(class) => Test::Class(run_text(alloc, None, class)?),
-        TestText::Key(key) => Test::Key(lower_text(alloc, key)?),
+        TestText::Key(key) => Test::Key(ident_text(alloc, key)?),
         TestText::Value(key, op, Run { quote, text }, folds) => Test::Value(
-            lower_text(alloc, key)?,
+            ident_text(alloc, key)?,
             op,
             run_text(alloc, quote, text)?,
             folds,
@@ -88,6 +88,20 @@ fn edge(program: Program, way: Way, link: Link) -> Result<Program, AllocError>
         .ask(Test::Any)?
         .shift(way, link, Reach::Once)?
         .turn()
+}
+
+// The outermost tag that may be an anchor.
+fn outermost(program: Program, anchor: Anchor) -> Result<Program, AllocError>
+    requires { length (waiting_after program.steps.items) ≤ 58 }
+    ensures { IfOk result (λ q. waiting_after q.steps.items ≡ p.outermost anchor
+        ∷ waiting_after program.steps.items) }
+{
+    program
+        .ask(Test::May(anchor))?
+        .ask(Test::May(anchor))?
+        .shift(Way::From, Link::Parent, Reach::Once)?
+        .turn()?
+        .meet()
 }
 
 // The last one, put together with what is begun of its compound.
@@ -128,6 +142,7 @@ fn with_whole(
             let first = edge(program, Way::From, link)?;
             meet_if(edge(first, Way::To, link)?.meet()?, begun)
         }
+        Whole::Outermost(anchor) => meet_if(outermost(program, anchor)?, begun),
         Whole::Nth(way, link, formula) => {
             meet_if(program.ask(Test::Any)?.count(way, link, formula)?, begun)
         }

@@ -11,13 +11,13 @@ pub returns-in-Name : goal.returns-in-Name
 returns-in-Name c =
     let all = seen_nodes c.args.spelling c.args.nodes.now in
     let P : s.Test → Type 0 = λ t. IfOk c.named.result (λ ns. AreBelow (λ n. Holds all (Is t) n × OthersHold all c.args.steps.now c.args.but n) (length all) ns.items) in
-    subst P (ap s.Name c.deref.ensures.value ∙ sym (ap test c.in-Name.is)) c.named.ensures
+    subst P (sym (ap test c.in-Name.is)) c.named.ensures
 
 pub returns-in-Class : goal.returns-in-Class
 returns-in-Class c =
     let all = seen_nodes c.args.spelling c.args.nodes.now in
     let P : s.Test → Type 0 = λ t. IfOk c.in_class.result (λ ns. AreBelow (λ n. Holds all (Is t) n × OthersHold all c.args.steps.now c.args.but n) (length all) ns.items) in
-    subst P (ap s.Class c.deref-in-Class.ensures.value ∙ sym (ap test c.in-Class.is)) c.in_class.ensures
+    subst P (ap s.Class c.deref.ensures.value ∙ sym (ap test c.in-Class.is)) c.in_class.ensures
 
 pub returns-in-Id : goal.returns-in-Id
 returns-in-Id c =
