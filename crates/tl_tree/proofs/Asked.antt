@@ -11,6 +11,7 @@ use Rattle.tl_tree.proofs.Listed.{part-front}
 use Rattle.tl_tree.specs.Inner.Store.{bytes_of, doctype_at, doctype_of, is_span, tag_at, tag_of}
 use Rattle.tl_tree.specs.declared.entries.DoctypeEntry.{DoctypeEntry}
 use Rattle.tl_tree.specs.declared.entries.TagEntry.{TagEntry}
+use Rattle.tl_tree.specs.Inner.Within.{span_is_within}
 use Rattle.tl_tree.specs.declared.span.Span.{Span}
 use Rattle.tl_tree.specs.declared.store.Store.{Store}
 
@@ -28,34 +29,30 @@ unfolding doctype_at
 doctype-read s n d is h =
     sym (get_or-map (doctype_of s) s.doctypes.items n d doctypes.no_doctype.own h ∙ ap (doctype_of s) (sym is))
 
-pub bytes-page : (s : Store) (span : Span) → span.start + span.len ≤ length s.page.now → take (span.start + span.len - span.start) (drop span.start s.page.now) ≡ bytes_of s span
-unfolding bytes_of
-bytes-page s span h =
+pub bytes-page : (page side : List ℕ) (span : Span) → span.start + span.len ≤ length page → take (span.start + span.len - span.start) (drop span.start page) ≡ take span.len (drop span.start (page ++ side))
+bytes-page page side span h =
     let len : span.start + span.len - span.start ≡ span.len = omega arith in
-    ap (λ n. take n (drop span.start s.page.now)) len
-    ∙ sym (part-front span.len span.start s.page.now s.side.items h)
+    ap (λ n. take n (drop span.start page)) len
+    ∙ sym (part-front span.len span.start page side h)
 
 -- bytes that don't lie in the page begin behind it
-behind-page : (s : Store) (span : Span) → IsTrue (is_span s span) → length s.page.now < span.start + span.len → length s.page.now ≤ span.start
-behind-page s span h past =
-    let page = length s.page.now in
-    elim (or_cases (nat_le (span.start + span.len) page) (nat_le page span.start && nat_le (span.start + span.len) (page + length s.side.items)) h) [
+behind-page : (page side : ℕ) (span : Span) → IsTrue (span_is_within page side span) → page < span.start + span.len → page ≤ span.start
+behind-page page side span h past =
+    elim (or_cases (nat_le (span.start + span.len) page) (nat_le page span.start && nat_le (span.start + span.len) (page + side)) h) [
       | inl p ↦ (let le = leb-true (span.start + span.len) page p in absurd (omega arith))
-      | inr q ↦ leb-true page span.start (and_parts (nat_le page span.start) (nat_le (span.start + span.len) (page + length s.side.items)) q).0
+      | inr q ↦ leb-true page span.start (and_parts (nat_le page span.start) (nat_le (span.start + span.len) (page + side)) q).0
     ]
 
-pub bytes-side : (s : Store) (span : Span) (side : List ℕ) → side ≡ s.side.items → IsTrue (is_span s span) → length s.page.now < span.start + span.len → take (span.start + span.len - length s.page.now - (span.start - length s.page.now)) (drop (span.start - length s.page.now) side) ≡ bytes_of s span
-unfolding bytes_of
-bytes-side s span side e h past =
-    let page = length s.page.now in
-    let behind = behind-page s span h past in
-    let len : span.start + span.len - page - (span.start - page) ≡ span.len = omega arith in
-    let start : page + (span.start - page) ≡ span.start = omega arith in
-    ap (λ n. take n (drop (span.start - page) side)) len
-    ∙ (ap (λ own. take span.len (drop (span.start - page) own)) e
+pub bytes-side : (page side : List ℕ) (span : Span) → IsTrue (span_is_within (length page) (length side) span) → length page < span.start + span.len → take (span.start + span.len - length page - (span.start - length page)) (drop (span.start - length page) side) ≡ take span.len (drop span.start (page ++ side))
+bytes-side page side span h past =
+    let from = span.start - length page in
+    let behind = behind-page (length page) (length side) span h past in
+    let len : span.start + span.len - length page - from ≡ span.len = omega arith in
+    let start : length page + from ≡ span.start = omega arith in
+    ap (λ n. take n (drop from side)) len
     ∙ ap (take span.len)
-    (sym (drop-append-add s.page.now s.side.items (span.start - page))
-    ∙ ap (λ n. drop n (s.page.now ++ s.side.items)) start))
+    (sym (drop-append-add page side from)
+    ∙ ap (λ n. drop n (page ++ side)) start)
 
 -- Words
 

@@ -4,6 +4,7 @@ use Rattle.std.proofs.lemmas.Bool.{lt-ltb, ltb-true}
 use Rattle.std.proofs.lemmas.Option.{none-some, same_Some, slice_get-map, slice_get_read}
 use Rattle.std.specs.Option.{option_and_then, option_copied, option_map, unwrap_or}
 use Rattle.tl_dom_spec.specs.Tags as dom
+use Rattle.tl_tree.proofs.KnownNames.{known-read}
 use Rattle.tl_tree.proofs.Seats.{all-get}
 use Rattle.tl_tree.proofs.Templates.{tag-is}
 use Rattle.tl_tree.specs.Asked.{attributes_at, attributes_of, doctype_of as asked_doctype, doctype_said, end_at, name_of, namespace_by, namespace_of, node_at}
@@ -18,11 +19,12 @@ use Rattle.tl_tree.specs.declared.entries.DoctypeEntry.{DoctypeEntry}
 use Rattle.tl_tree.specs.declared.entries.Namespace.{Namespace}
 use Rattle.tl_tree.specs.declared.entries.Namespace.TheVariants.{Html, Math, Svg}
 use Rattle.tl_tree.specs.declared.entries.TagEntry.{TagEntry}
+use Rattle.tl_tree.specs.declared.row.Held.{Held}
 use Rattle.tl_tree.specs.declared.row.Held.TheVariants.{Doctype as HeldDoctype, Element}
 use Rattle.tl_tree.specs.declared.row.Row as code
 use Rattle.tl_tree.specs.declared.store.Store.{Store}
 use Rattle.tl_tree.specs.declared.tree.Tree.{Tree}
-use Rattle.tl_tree.specs.Sources.{number_at, number_of}
+use Rattle.tl_tree.specs.Sources.{node_source, place_at, source_at, start_tag_at}
 
 end-found : (rows : List Row) (outer end : ℕ) (o : Option Row) → slice_get rows outer ≡ o → option_map (λ (row : Row). row.end) o ≡ Some end → (row : Row) × (slice_get rows outer ≡ Some row) × (row.end ≡ end)
 end-found rows outer end None e f = absurd (none-some end f)
@@ -77,6 +79,15 @@ pub name-found : (t : Tree) (number tag : ℕ) (items : List code.Row) (row : co
 name-found t number tag items row entry bytes same below got held e is =
     sym (ap (option_and_then name_of) (element-found t number tag items row entry same below got held e) ∙ ap (λ v. Some v) (tag-named t.store entry ∙ sym is))
 
+-- the name of an element whose tag is known
+pub name-stands : (t : Tree) (number tag : ℕ) (items : List code.Row) (row : code.Row) (entry : TagEntry) → items ≡ t.rows.items → true ≡ nat_lt number (length items) → row ≡ get_or items number row → row.held ≡ Element tag → tag_of t.store entry ≡ tag_at t.store tag → Some (bytes_of t.store entry.name) ≡ option_and_then name_of (node_at (rows_in t) number)
+unfolding tag_of
+name-stands t number tag items row entry same below got held e =
+    let s = t.store in
+    let at = row-found t number items row same below got in
+    ap (λ (own : dom.Tag). Some own.name) e
+    ∙ sym (ap (option_and_then name_of) (node-held t number row at ∙ ap (λ v. Some (held_in s (text_of s) v)) held))
+
 tag-spaced : (s : Store) (entry : TagEntry) → (tag_of s entry).space ≡ space_of entry.space
 unfolding tag_of
 tag-spaced s entry = refl
@@ -96,16 +107,26 @@ tag-sourced : (s : Store) (entry : TagEntry) → (tag_of s entry).source ≡ sou
 unfolding tag_of
 tag-sourced s entry = refl
 
-pub start-found : (t : Tree) (number tag : ℕ) (items : List code.Row) (row : code.Row) (entry : TagEntry) → items ≡ t.rows.items → true ≡ nat_lt number (length items) → row ≡ get_or items number row → row.held ≡ Element tag → entry ≡ get_or t.store.tags.items tag entry → source_of entry.start ≡ number_at (rows_in t) number
-start-found t number tag items row entry same below got held e =
-    sym (ap (option_and_then number_of) (element-found t number tag items row entry same below got held e) ∙ tag-sourced t.store entry)
+start-none : (t : Tree) (k : ℕ) → k ≡ 0 → start_tag_at t (source_of k) ≡ None
+start-none t k e = ap (λ (n : ℕ). start_tag_at t (source_of n)) e
 
-pub start-none : (k : ℕ) → k ≡ 0 → source_of k ≡ None
-start-none k e = ap source_of e
+start-some : (t : Tree) (k : ℕ) → (k ≡ 0 → ⊥) → start_tag_at t (source_of k) ≡ place_at t k
+start-some t zero e = absurd (e refl)
+start-some t (suc k) e = refl
 
-pub start-some : (k : ℕ) → (k ≡ 0 → ⊥) → source_of k ≡ Some (k - 1)
-start-some zero e = absurd (e refl)
-start-some (suc k) e = ap (λ (n : ℕ). Some n) (omega arith)
+pub no-start-tag : (t : Tree) (tag : ℕ) (entry : TagEntry) → tag_of t.store entry ≡ tag_at t.store tag → entry.start ≡ 0 → start_tag_at t (tag_at t.store tag).source ≡ None
+no-start-tag t tag entry is e =
+    ap (λ (own : dom.Tag). start_tag_at t own.source) (sym is) ∙ (ap (start_tag_at t) (tag-sourced t.store entry) ∙ start-none t entry.start e)
+
+pub some-start-tag : (t : Tree) (tag : ℕ) (entry : TagEntry) → tag_of t.store entry ≡ tag_at t.store tag → (entry.start ≡ 0 → ⊥) → start_tag_at t (tag_at t.store tag).source ≡ place_at t entry.start
+some-start-tag t tag entry is e =
+    ap (λ (own : dom.Tag). start_tag_at t own.source) (sym is) ∙ (ap (start_tag_at t) (tag-sourced t.store entry) ∙ start-some t entry.start e)
+
+-- by what a row holds
+pub held-source : (t : Tree) (number : ℕ) (items : List code.Row) (row : code.Row) (held : Held) → items ≡ t.rows.items → true ≡ nat_lt number (length items) → row ≡ get_or items number row → row.held ≡ held → node_source t (held_in t.store (text_of t.store) held) ≡ source_at t number
+held-source t number items row held same below got is =
+    let at = row-found t number items row same below got in
+    sym (ap (option_and_then (node_source t)) (node-held t number row at) ∙ ap (λ v. node_source t (held_in t.store (text_of t.store) v)) is)
 
 -- Attributes
 
@@ -122,8 +143,8 @@ attributes-found t number tag items row entry entries same below got held e is =
 
 -- A doctype
 
-pub doctype-found : (t : Tree) (number own : ℕ) (items : List code.Row) (row : code.Row) (entry : DoctypeEntry) (said : Doctype) → items ≡ t.rows.items → true ≡ nat_lt number (length items) → row ≡ get_or items number row → row.held ≡ HeldDoctype own → doctype_of t.store entry ≡ doctype_at t.store own → doctype_said said ≡ doctype_of t.store entry → Some (doctype_said said) ≡ option_and_then asked_doctype (node_at (rows_in t) number)
-doctype-found t number own items row entry said same below got held e is =
+pub doctype-found : (t : Tree) (number own source : ℕ) (items : List code.Row) (row : code.Row) (entry : DoctypeEntry) (said : Doctype) → items ≡ t.rows.items → true ≡ nat_lt number (length items) → row ≡ get_or items number row → row.held ≡ HeldDoctype own source → doctype_of t.store entry ≡ doctype_at t.store own → doctype_said said ≡ doctype_of t.store entry → Some (doctype_said said) ≡ option_and_then asked_doctype (node_at (rows_in t) number)
+doctype-found t number own source items row entry said same below got held e is =
     let s = t.store in
     let at = row-found t number items row same below got in
     sym (ap (option_and_then asked_doctype) (node-held t number row at ∙ ap (λ v. Some (held_in s (text_of s) v)) held) ∙ ap (λ v. Some v) (sym e ∙ sym is))

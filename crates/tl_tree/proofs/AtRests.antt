@@ -162,12 +162,12 @@ one-done : (c : ℕ) (b : Builder) → Whole b → token_done b (a_character c) 
 one-done c b w =
     let steps : Builder = repeated (bound b) (dispatch (a_character c)) (Again (calm b)) in
     let x : Builder = run_dispatched (c ∷ []) b in
-    ap (λ (z : Builder). record (count_token z) { starts = b.starts })
+    ap (λ (z : Builder). record (count_token z) { marks = b.marks })
     (cond-false (b.skips && (c == 10)) (calm b) steps (and_left b.skips (c == 10) w.rest.0.0)
     ∙ ap (λ z. repeated (bound b) (dispatch (a_character c)) (Again z)) (calm-same b w.rest.0)
     ∙ once (bound b) c b x (omega arith) (one-step c b w))
-    ∙ ap (λ (z : Builder). record z { starts = b.starts }) (count_same x (run_Counted (c ∷ []) b w.few))
-    ∙ ap (λ (n : ℕ). record (count_tokens 1 x) { starts = n }) (sym (run_starts (c ∷ []) b))
+    ∙ ap (λ (z : Builder). record z { marks = b.marks }) (count_same x (run_Counted (c ∷ []) b w.few))
+    ∙ ap (λ (n : ℕ). record (count_tokens 1 x) { marks = n }) (sym (run_starts (c ∷ []) b))
 
 whole-kept : (c : ℕ) (b : Builder) → Whole b → Whole (count_tokens 1 (run_dispatched (c ∷ []) b))
 whole-kept c b w =
@@ -236,7 +236,7 @@ whole-at-rest b e =
 
 calmed : (c : ℕ) (b : Builder) → b.skips ≡ false → token_done b (a_character c) ≡ token_done (calm b) (a_character c)
 calmed c b e =
-    ap (λ (z : Builder). record (count_token z) { starts = b.starts })
+    ap (λ (z : Builder). record (count_token z) { marks = b.marks })
     (cond-false (b.skips && (c == 10)) (calm b) (repeated (bound b) (dispatch (a_character c)) (Again (calm b))) (and_left b.skips (c == 10) e))
 
 pub whole-taken : (b : Builder) (text : List ℕ) → is_at_rest b ≡ true → 0 < length text → tokens_done b (map a_character text) ≡ run_taken text (calm b)

@@ -11,15 +11,15 @@ use Rattle.tl_dom_spec.specs.Dispatcher.{found_in}
 use Rattle.tl_dom_spec.specs.Path as dom
 use Rattle.tl_dom_spec.specs.Tags.{Tag, is_html}
 use Rattle.tl_tree.proofs.Furthest.{elements-closed, elements-open, furthest-all, furthest-closed, furthest-further, furthest-none, furthest-on, furthest-own}
-use Rattle.tl_tree.proofs.Skipped.{lowered-bucket, none-at, numbered-before, numbered-behind}
+use Rattle.tl_tree.proofs.Skipped.{lowered-same, none-at, numbered-before, numbered-behind}
 use Rattle.tl_tree.proofs.Sought.{sought-all}
 use Rattle.tl_tree.proofs.StackWalk.{found-on, found-other}
 use Rattle.tl_tree.specs.Inner.Adopted.{frame_at, frame_found, furthest, is_block, is_element_of}
 use Rattle.tl_tree.specs.Inner.Found.{framed, stack_to}
 use Rattle.tl_tree.specs.Inner.Framed.{numbers}
 use Rattle.tl_tree.specs.Inner.Frames.{frames_of, path_of, sought}
-use Rattle.tl_tree.specs.Inner.Limits.{is_in_bucket, is_of_kind, none_from}
-use Rattle.tl_tree.specs.Inner.Roles.{bucket_of}
+use Rattle.tl_tree.specs.Inner.Limits.{is_lowered, is_of_kind, none_from}
+use Rattle.tl_tree.specs.Inner.MetNames.{in_lower_case}
 use Rattle.tl_tree.specs.declared.frame.Frame.{Frame}
 use Rattle.tl_tree.specs.declared.path.FramePath.{FramePath}
 use Rattle.tl_tree.specs.declared.role.Kind.TheVariants.{Html}
@@ -206,11 +206,11 @@ found-swapped : (name : List ℕ) (f g : dom.Frame) (fs : List dom.Frame) → by
 found-swapped name f g [] e k = refl
 found-swapped name f g (h ∷ fs) e k = found-other name f h fs e ∙ sym (found-other name g h fs k)
 
-elsewhere-named : (name : List ℕ) (f : dom.Frame) → is_in_bucket (bucket_of name) f ≡ false → bytes_eq (map to_ascii_lowercase f.tag.name) name ≡ false
+elsewhere-named : (name : List ℕ) (f : dom.Frame) → is_lowered (in_lower_case name) f ≡ false → bytes_eq (map to_ascii_lowercase f.tag.name) name ≡ false
 elsewhere-named name f h = by-name (bytes_eq (map to_ascii_lowercase f.tag.name) name) refl
   where
     by-name : (b : Bool) → bytes_eq (map to_ascii_lowercase f.tag.name) name ≡ b → b ≡ false
-    by-name true e = absurd (false≢true (sym h ∙ lowered-bucket f.tag.name name e))
+    by-name true e = absurd (false≢true (sym h ∙ lowered-same f.tag.name name e))
     by-name false e = refl
 
 -- an element that the name isn't, around another one
@@ -226,11 +226,11 @@ found-past name p n h inner own foreign = by-open (frame_at p n).is_open refl
         ap (λ fs. found_in name (frame_at p (n + 1) ∷ fs)) (elements-open p n h opened)
         ∙ found-on name (frame_at p (n + 1)) (frame_at p n) (around p n) inner foreign
 
-pub found-begun : (name : List ℕ) (p : FramePath) (top limit n : ℕ) → n ≡ min top limit → top < length p.frames.items → IsTrue (none_from (is_of_kind Html) p limit) → IsTrue (none_from (is_in_bucket (bucket_of name)) p limit) → found_in name (framed p top ∷ stack_to p top) ≡ found_in name (framed p n ∷ stack_to p n)
+pub found-begun : (name : List ℕ) (p : FramePath) (top limit n : ℕ) → n ≡ min top limit → top < length p.frames.items → IsTrue (none_from (is_of_kind Html) p limit) → IsTrue (none_from (is_lowered (in_lower_case name)) p limit) → found_in name (framed p top ∷ stack_to p top) ≡ found_in name (framed p n ∷ stack_to p n)
 unfolding framed
 found-begun name p top limit n e h html names =
     let other : (i : ℕ) → limit ≤ i → i < length p.frames.items → bytes_eq (map to_ascii_lowercase (frame_at p i).tag.name) name ≡ false =
-    λ i least below. elsewhere-named name (frame_at p i) (none-at (is_in_bucket (bucket_of name)) p limit i names least below) in
+    λ i least below. elsewhere-named name (frame_at p i) (none-at (is_lowered (in_lower_case name)) p limit i names least below) in
     same-from (λ i. found_in name (framed p i ∷ stack_to p i)) n top (omega arith)
     (λ i least below.
     found-past name p i (omega arith) (other (i + 1) (omega arith) (omega arith)) (other i (omega arith) (omega arith))

@@ -53,7 +53,7 @@ known-more b q g least =
       listed = omega arith;
       own = omega arith;
       around = context-more (length s.tags.items) (length t.tags.items) more b.context k.around;
-      said = is-node-grown s t g (Text b.text) k.said;
+      said = is-node-grown s t g (Text (record { span = b.text; source = 0 })) k.said;
       typed = omega arith;
       tallied = tallied-grown s t g b.active listed k.tallied;
     }
@@ -96,8 +96,8 @@ context-grown s t g None h = refl
 context-grown s t g (Some tag) h =
     ap (λ (own : tags.Tag). Some own) (tag-at-grown s t g tag (ltb-true tag (length s.tags.items) h))
 
-said : List ℕ → tags.Tag → List ℕ → Doctype → Said
-said page tag text doctype = record { page = page; tag = tag; text = text; doctype = doctype }
+said : ℕ → List ℕ → tags.Tag → List ℕ → Doctype → Said
+said source page tag text doctype = record { page = page; tag = tag; text = text; doctype = doctype; source = source }
 
 -- all but the path, the active formatting elements, the number and the context
 with_parts : dom.Builder → paths.Path → List dom.Entry → ℕ → Option tags.Tag → dom.Builder
@@ -126,17 +126,17 @@ both-changed b q list known path next entries g is-next is-path is-active =
     (option_map (tag_at q.store) b.context) (option_map (tag_at b.path.store) b.context)
     is-path is-active is-next (context-grown b.path.store q.store g b.context b.known.around)
 
-same-said : (p p' : List ℕ) (t t' : tags.Tag) (x x' : List ℕ) (d d' : Doctype) → p ≡ p' → t ≡ t' → x ≡ x' → d ≡ d' → said p t x d ≡ said p' t' x' d'
-same-said p p' t t' x x' d d' is-page is-tag is-text is-doctype =
-    ap (λ own. said own t x d) is-page
-    ∙ (ap (λ own. said p' own x d) is-tag ∙ (ap (λ own. said p' t' own d) is-text ∙ ap (said p' t' x') is-doctype))
+same-said : (n : ℕ) (p p' : List ℕ) (t t' : tags.Tag) (x x' : List ℕ) (d d' : Doctype) → p ≡ p' → t ≡ t' → x ≡ x' → d ≡ d' → said n p t x d ≡ said n p' t' x' d'
+same-said n p p' t t' x x' d d' is-page is-tag is-text is-doctype =
+    ap (λ own. said n own t x d) is-page
+    ∙ (ap (λ own. said n p' own x d) is-tag ∙ (ap (λ own. said n p' t' own d) is-text ∙ ap (said n p' t' x') is-doctype))
 
 pub token-kept : (b : Builder) (q : FramePath) (known : AreKnown (sizes_of q.store) q.next b.active.greatest_number b.active.greatest_tag b.context b.tag b.text b.doctype q.store b.active) → Grows b.path.store q.store → token_of (record b { path = q; known = known }) ≡ token_of b
 unfolding token_of said
 token-kept b q known g =
     let s = b.path.store in
     let t = q.store in
-    same-said t.page.now s.page.now
+    same-said b.source t.page.now s.page.now
     (tag_at t b.tag) (tag_at s b.tag) (bytes_of t b.text) (bytes_of s b.text) (doctype_at t b.doctype) (doctype_at s b.doctype)
     g.page (tag-at-grown s t g b.tag b.known.own) (bytes-grown s t g b.text b.known.said) (doctype-at-grown s t g b.doctype b.known.typed)
 
@@ -149,7 +149,7 @@ on-ok-is (Ok own) x a b e is = is ∙ e
 on-ok-is (Err own) x a b e is = is
 
 -- a tag without attributes
-pub bare-tag-of : (s : Store) (name : Span) → tag_of s (record { space = Html; name = name; known = OTHER; list = Tags; first_attribute = 0; attribute_count = 0; start = 0 }) ≡ tags.bare_tag (bytes_of s name)
+pub bare-tag-of : (s : Store) (name : Span) → tag_of s (record { space = Html; name = name; known = OTHER; number = 0; list = Tags; first_attribute = 0; attribute_count = 0; start = 0 }) ≡ tags.bare_tag (bytes_of s name)
 unfolding tag_of
 bare-tag-of s name = refl
 

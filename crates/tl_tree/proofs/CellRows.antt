@@ -62,9 +62,9 @@ rows-filled s rows [] = refl
 rows-filled s rows (c ∷ cells) = rows-filled s (rows ++ row_in s rows c ∷ []) cells
 
 node-reads : (s : Store) (z : Sizes) (all some : List Nodes) (n : ℕ) (node : Node) → IsTrue (node_is_within z n node) → ((k : ℕ) → k ≤ n → get_or all k no_nodes ≡ get_or some k no_nodes) → node_in s all node ≡ node_in s some node
-node-reads s z all some n (Text span) h same = refl
-node-reads s z all some n (Comment span) h same = refl
-node-reads s z all some n (Doctype number) h same = refl
+node-reads s z all some n (Text own) h same = refl
+node-reads s z all some n (Comment own) h same = refl
+node-reads s z all some n (Doctype number source) h same = refl
 node-reads s z all some n (Element tag below) h same =
     let p = and_parts (nat_lt tag z.tags) (nat_le below n) h in
     ap (and_element no_nodes (tag_at s tag)) (same below (leb-true below n p.1))
@@ -83,9 +83,9 @@ weights-filled weights [] = refl
 weights-filled weights (c ∷ cells) = weights-filled (weights ++ cell_weight weights c ∷ []) cells
 
 node-weighs : (z : Sizes) (all some : List ℕ) (n : ℕ) (node : Node) → IsTrue (node_is_within z n node) → ((k : ℕ) → k ≤ n → get_or all k 0 ≡ get_or some k 0) → node_weight all node ≡ node_weight some node
-node-weighs z all some n (Text span) h same = refl
-node-weighs z all some n (Comment span) h same = refl
-node-weighs z all some n (Doctype number) h same = refl
+node-weighs z all some n (Text own) h same = refl
+node-weighs z all some n (Comment own) h same = refl
+node-weighs z all some n (Doctype number source) h same = refl
 node-weighs z all some n (Element tag below) h same =
     let p = and_parts (nat_lt tag z.tags) (nat_le below n) h in
     ap (λ v. 1 + v) (same below (leb-true below n p.1))
@@ -99,9 +99,9 @@ cell-weighs z all some n c h same =
 
 held-weighs : (s : Store) (node : Node) → node_weight (weights_from (0 ∷ []) s.cells.items) node ≡ held_weight s node
 unfolding weight_of
-held-weighs s (Text span) = refl
-held-weighs s (Comment span) = refl
-held-weighs s (Doctype number) = refl
+held-weighs s (Text own) = refl
+held-weighs s (Comment own) = refl
+held-weighs s (Doctype number source) = refl
 held-weighs s (Element tag below) = refl
 held-weighs s (Joined second) = refl
 

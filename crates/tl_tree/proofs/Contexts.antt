@@ -50,7 +50,7 @@ one-more f front all more xs i d h stands added =
 -- a tag whose attributes were put in last
 pub tag-added : (t u : Store) → Grows t u → (space : Namespace) (span : Span) → IsTrue (is_span t span) → (name : List ℕ) → bytes_of t span ≡ name → (attributes : List dom.Attribute) →
     attributes_in u (list_in u Tags) ≡ attributes_in t (list_in t Tags) ++ attributes → (first all : ℕ) → first ≡ length (list_in t Tags) → all ≡ length (list_in u Tags) →
-    tag_of u (record { space = space; name = span; known = OTHER; list = Tags; first_attribute = first; attribute_count = all - first; start = 0 }) ≡ record { space = space_of space; name = name; attributes = attributes; source = None }
+    tag_of u (record { space = space; name = span; known = OTHER; number = 0; list = Tags; first_attribute = first; attribute_count = all - first; start = 0 }) ≡ record { space = space_of space; name = name; attributes = attributes; source = None }
 unfolding tag_of
 tag-added t u g space span within name is attributes put first all first_is all_is =
     let items = list_in u Tags in

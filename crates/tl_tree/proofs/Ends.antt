@@ -41,9 +41,9 @@ apart-last [] last h k = apart-cons last [] k none-apart
 apart-last (first ∷ all) last h k = apart-cons first (all ++ last ∷ []) (h 0) (apart-last all last (λ n. h (suc n)) k)
 
 node-apart : (s : Store) (all : List Nodes) (node : Node) → AllApart all → StandApart (node_in s all node)
-node-apart s all (Text span) h = (refl, tt)
-node-apart s all (Comment span) h = tt
-node-apart s all (Doctype n) h = tt
+node-apart s all (Text own) h = (refl, tt)
+node-apart s all (Comment own) h = tt
+node-apart s all (Doctype n source) h = tt
 node-apart s all (Element tag below) h = (tt, h below)
 node-apart s all (Joined second) h = h second
 
@@ -130,7 +130,7 @@ final-flats init final n t pieces written =
     let nodes = nodes_of s n in
     sym (ap (λ v. map (flat_in v.now (text_with v.now final.copied.items)) final.rows.items) t.store)
     ∙ (ap (λ (g : Gathered). g.rows) t.state
-    ∙ (ap (λ v. flushed (gathered nodes (record { pending = pending_of s v; rows = flats_of init }))) pieces
+    ∙ (ap (λ v. flushed (gathered nodes (record { pending = pending_of s init.source v; rows = flats_of init }))) pieces
     ∙ ap (λ v. flushed (gathered nodes (record { pending = None; rows = map (flat_in s (text_with s init.copied.items)) v }))) written))
 
 pub final-ends : (init final : Settling) (n : ℕ) (turned : List Row) → Turns init final (only_rows (flushed (gathered (nodes_of init.store.now n) (state_of init)))) → init.pieces.items ≡ [] → init.rows.items ≡ [] → turned ≡ reverse final.rows.items → IsTrue (list_all (λ row. nat_le row.end (length turned)) turned)

@@ -6,15 +6,16 @@ use Rattle.std.proofs.lemmas.Option.{same_Some, slice_get-map, slice_get_read}
 use Rattle.std.specs.List.{insert, list_any}
 use Rattle.std.specs.Option.{option_map}
 use Rattle.tl_dom_spec.specs.Tags as tags
-use Rattle.tl_tree.proofs.Grown.{tag-at-grown}
+use Rattle.tl_tree.proofs.Grown.{number-at-grown, tag-at-grown}
 use Rattle.tl_tree.proofs.Listed.{map-same, map-take}
 use Rattle.tl_tree.proofs.Numbered.{found-any}
 use Rattle.tl_tree.proofs.Numbers.{either, either-front}
 use Rattle.tl_tree.proofs.Written.{parts-of}
-use Rattle.tl_tree.specs.Inner.Entered.{entered, entered_of}
+use Rattle.tl_tree.specs.Inner.Entered.{entered, entered_of, role_at}
 use Rattle.tl_tree.specs.Inner.Framed.{are_distinct, frame_is_within, numbers}
 use Rattle.tl_tree.specs.Inner.Framed as framed
 use Rattle.tl_tree.specs.Inner.Frames.{frame_of, frames_of, is_frame, path_of}
+use Rattle.tl_tree.specs.Inner.NameNumbers.{number_at}
 use Rattle.tl_tree.specs.Inner.Roles.{is_numbered, role_of}
 use Rattle.tl_tree.specs.Inner.Store.{Grows, tag_at}
 use Rattle.tl_tree.specs.declared.frame.Frame.{Frame}
@@ -120,9 +121,14 @@ opens-parted {A = A} {B = B} f items r n old new known cut e front same h =
 
 -- What is entered of frames
 
+pub role-grown : (s t : Store) → Grows s t → (n : ℕ) → n < length s.tags.items → role_at t n ≡ role_at s n
+role-grown s t g n h =
+    ap (λ (tag : tags.Tag). role_of tag (number_at t n)) (tag-at-grown s t g n h)
+    ∙ ap (role_of (tag_at s n)) (number-at-grown s t g n h)
+
 entered-grown : (s t : Store) → Grows s t → (f : Frame) → IsTrue (frame_is_within (length s.tags.items) (length s.cells.items) f) → entered_of t f ≡ entered_of s f
 entered-grown s t g f h =
-    ap (λ (tag : tags.Tag). record { number = f.number; role = role_of tag }) (tag-at-grown s t g f.tag (parts-of s f h).tag)
+    ap (λ (role : Role). record { number = f.number; role = role }) (role-grown s t g f.tag (parts-of s f h).tag)
 
 -- the store grows
 pub known-grown : (p : FramePath) (t : Store) → Grows p.store t → Opens (entered p.scopes) (map (entered_of t) p.frames.items)
@@ -136,29 +142,29 @@ same-entered number number' role role' p q =
     ap (λ (own : ℕ). record { number = own; role = role }) p
     ∙ ap (λ (own : Role). record { number = number'; role = own }) q
 
-written : (s : Store) (frames : List Frame) (i : ℕ) (f : Frame) → f.number ≡ (get_or frames i f).number → role_of (tag_at s f.tag) ≡ role_of (tag_at s (get_or frames i f).tag) → map (entered_of s) (set frames i f) ≡ map (entered_of s) frames
+written : (s : Store) (frames : List Frame) (i : ℕ) (f : Frame) → f.number ≡ (get_or frames i f).number → role_at s f.tag ≡ role_at s (get_or frames i f).tag → map (entered_of s) (set frames i f) ≡ map (entered_of s) frames
 written s [] i f number role = refl
 written s (g ∷ frames) zero f number role =
     ap (λ own. own ∷ map (entered_of s) frames)
-    (same-entered f.number g.number (role_of (tag_at s f.tag)) (role_of (tag_at s g.tag)) number role)
+    (same-entered f.number g.number (role_at s f.tag) (role_at s g.tag) number role)
 written s (g ∷ frames) (suc i) f number role =
     ap (λ rest. entered_of s g ∷ rest) (written s frames i f number role)
 
 -- a frame is written
-pub known-written : (p : FramePath) (i : ℕ) (f : Frame) → f.number ≡ (get_or p.frames.items i f).number → role_of (tag_at p.store f.tag) ≡ role_of (tag_at p.store (get_or p.frames.items i f).tag) → Opens (entered p.scopes) (map (entered_of p.store) (set p.frames.items i f))
+pub known-written : (p : FramePath) (i : ℕ) (f : Frame) → f.number ≡ (get_or p.frames.items i f).number → role_at p.store f.tag ≡ role_at p.store (get_or p.frames.items i f).tag → Opens (entered p.scopes) (map (entered_of p.store) (set p.frames.items i f))
 known-written p i f number role =
     subst (λ (ys : List Entered). Opens (entered p.scopes) ys) (sym (written p.store p.frames.items i f number role)) p.known
 
-same-there : (frames : List Frame) (i : ℕ) (f d : Frame) → f ≡ get_or frames i f → i < length frames → f ≡ get_or frames i d
+pub same-there : (frames : List Frame) (i : ℕ) (f d : Frame) → f ≡ get_or frames i f → i < length frames → f ≡ get_or frames i d
 same-there [] i f d is h = absurd (omega arith)
 same-there (g ∷ frames) zero f d is h = is
 same-there (g ∷ frames) (suc i) f d is h = same-there frames i f d is (omega arith)
 
 -- the one that is written has the tag of the one that was there
-pub role-kept : (s : Store) (frames now : List Frame) (i : ℕ) (f own d : Frame) → now ≡ frames → f ≡ get_or frames i f → i < length frames → own.tag ≡ f.tag → role_of (tag_at s own.tag) ≡ role_of (tag_at s (get_or now i d).tag)
+pub role-kept : (s : Store) (frames now : List Frame) (i : ℕ) (f own d : Frame) → now ≡ frames → f ≡ get_or frames i f → i < length frames → own.tag ≡ f.tag → role_at s own.tag ≡ role_at s (get_or now i d).tag
 role-kept s frames now i f own d same is h tag =
     let there : f ≡ get_or now i d = same-there frames i f d is h ∙ ap (λ (xs : List Frame). get_or xs i d) (sym same) in
-    ap (λ (n : ℕ). role_of (tag_at s n)) (tag ∙ ap (λ (it : Frame). it.tag) there)
+    ap (λ (n : ℕ). role_at s n) (tag ∙ ap (λ (it : Frame). it.tag) there)
 
 -- none of the frames before one has its number
 
@@ -232,8 +238,8 @@ same-path p q frames store =
 
 -- What a frame is to searches
 
-pub frame-entered : (s : Store) (frames : List Frame) (i : ℕ) (f : Frame) (role : Role) → f ≡ get_or frames i f → i < length frames → role ≡ role_of (tag_at s f.tag) → slice_get (map (entered_of s) frames) i ≡ Some (record { number = f.number; role = role })
+pub frame-entered : (s : Store) (frames : List Frame) (i : ℕ) (f : Frame) (role : Role) → f ≡ get_or frames i f → i < length frames → role ≡ role_at s f.tag → slice_get (map (entered_of s) frames) i ≡ Some (record { number = f.number; role = role })
 frame-entered s [] i f role is h e = absurd (omega arith)
 frame-entered s (g ∷ frames) zero f role is h e =
-    ap Some (same-entered g.number f.number (role_of (tag_at s g.tag)) role (sym (ap (λ (it : Frame). it.number) is)) (sym (e ∙ ap (λ (it : Frame). role_of (tag_at s it.tag)) is)))
+    ap Some (same-entered g.number f.number (role_at s g.tag) role (sym (ap (λ (it : Frame). it.number) is)) (sym (e ∙ ap (λ (it : Frame). role_at s it.tag) is)))
 frame-entered s (g ∷ frames) (suc i) f role is h e = frame-entered s frames i f role is (omega arith) e

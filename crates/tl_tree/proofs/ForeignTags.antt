@@ -133,7 +133,7 @@ attributes-put o s t u before g more tag within i h f stands items is put put_wi
 pub tag-put : (s t u : Store) → Grows s t → Grows t u → (n : ℕ) (own : TagEntry) → IsTrue (is_tag s own) → tag_of s own ≡ tag_at s n → (space : Namespace) (is_renamed : Bool) (name : Span) → IsTrue (is_span t name) → bytes_of t name ≡ own_name is_renamed (space_of space) (bytes_of s own.name) →
     (first : ℕ) → first ≡ length (list_in t Tags) → length (list_in u Tags) ≡ length (list_in t Tags) + own.attribute_count →
     attributes_in u (drop (length (list_in t Tags)) (list_in u Tags)) ≡ map (foreign_attribute (space_of space)) (attributes_in t (entries_of t own)) →
-    tag_of u (record { space = space; name = name; known = OTHER; list = Tags; first_attribute = first; attribute_count = own.attribute_count; start = own.start }) ≡ foreign_tag (space_of space) (renamed is_renamed (space_of space) (tag_at s n))
+    tag_of u (record { space = space; name = name; known = OTHER; number = 0; list = Tags; first_attribute = first; attribute_count = own.attribute_count; start = own.start }) ≡ foreign_tag (space_of space) (renamed is_renamed (space_of space) (tag_at s n))
 unfolding tag_of
 tag-put s t u g more n own within is space is_renamed name name_within name_is first first_is many stands =
     let all = length-drop (length (list_in t Tags)) (list_in u Tags) in

@@ -3,20 +3,21 @@ use Rattle.std.proofs.Common.{List, Option, Some, None, [], ap, append_assoc, ar
 use Rattle.std.specs.Prelude.{Bool, false, reverse, true, ⊤}
 use Rattle.std.proofs.lemmas.List.{append-nil, reverse-append}
 use Rattle.tl_dom_spec.specs.HtmlForest.{HtmlForest, before, comment, doctype, element, has_contents, no_trees, text}
+use Rattle.tl_dom_spec.specs.Marks.{Marked}
 use Rattle.tl_dom_spec.specs.Path.{Nodes, and_comment, and_doctype, and_element, and_text, joined, no_nodes, with_text}
 use Rattle.tl_tree.specs.Rows.{Node, Row, a_comment, a_doctype, a_text, an_element, contents_count, contents_rows, row_count, rows_from, rows_of}
 use Rattle.tl_tree.specs.Inner.Gathering.{Flat, Gathered, closed, contents_flat, flat, flushed, gathered, only_rows, put, text_before, with_pending, with_piece, with_row}
 
 -- Nodes that are joined
 
-before-twice : (a b : List ℕ) (p : Option (List ℕ)) → text_before (a ++ b) p ≡ text_before a (text_before b p)
+before-twice : (a b : Marked (List ℕ)) (p : Option (Marked (List ℕ))) → text_before (record a { said = a.said ++ b.said }) p ≡ text_before a (text_before b p)
 before-twice a b None = refl
-before-twice a b (Some more) = ap (λ v. Some v) (append_assoc a b more)
+before-twice a b (Some more) = ap (λ v. Some (record a { said = v })) (append_assoc a.said b.said more.said)
 
-piece-twice : (a b : List ℕ) (g : Gathered) → with_piece (a ++ b) g ≡ with_piece a (with_piece b g)
+piece-twice : (a b : Marked (List ℕ)) (g : Gathered) → with_piece (record a { said = a.said ++ b.said }) g ≡ with_piece a (with_piece b g)
 piece-twice a b g = ap (λ p. let r : Gathered = record { pending = p; rows = g.rows } in r) (before-twice a b g.pending)
 
-pub gathered-text : (nodes : Nodes) (bytes : List ℕ) (g : Gathered) → gathered (with_text nodes bytes) g ≡ gathered nodes (with_piece bytes g)
+pub gathered-text : (nodes : Nodes) (bytes : Marked (List ℕ)) (g : Gathered) → gathered (with_text nodes bytes) g ≡ gathered nodes (with_piece bytes g)
 gathered-text no_nodes bytes g = refl
 gathered-text (and_text nodes own) bytes g = ap (gathered nodes) (piece-twice own bytes g)
 gathered-text (and_comment nodes own) bytes g = refl
@@ -45,7 +46,7 @@ StandApart (and_comment nodes bytes) = StandApart nodes
 StandApart (and_doctype nodes own) = StandApart nodes
 StandApart (and_element nodes tag children) = StandApart nodes × StandApart children
 
-pub apart-text : (nodes : Nodes) (bytes : List ℕ) → StandApart nodes → StandApart (with_text nodes bytes)
+pub apart-text : (nodes : Nodes) (bytes : Marked (List ℕ)) → StandApart nodes → StandApart (with_text nodes bytes)
 apart-text no_nodes bytes h = (refl, h)
 apart-text (and_text nodes own) bytes h = h
 apart-text (and_comment nodes own) bytes h = (refl, h)
@@ -68,7 +69,7 @@ written (and_doctype nodes own) rows = written nodes (with_row rows (a_doctype o
 written (and_element nodes tag children) rows =
     written nodes (written children rows ++ (contents_flat (has_contents tag) (length rows) ++ flat (an_element tag) (length rows) ∷ []))
 
-text-flushed : (bytes : List ℕ) (g : Gathered) → g.pending ≡ None → flushed (with_piece bytes g) ≡ with_row (flushed g) (a_text bytes)
+text-flushed : (bytes : Marked (List ℕ)) (g : Gathered) → g.pending ≡ None → flushed (with_piece bytes g) ≡ with_row (flushed g) (a_text bytes)
 text-flushed bytes g none =
     subst (λ p. with_pending (text_before bytes p) g.rows ≡ with_row (with_pending p g.rows) (a_text bytes)) (sym none) refl
 

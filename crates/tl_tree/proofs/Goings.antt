@@ -1,6 +1,7 @@
 -- What settling has done, one part after the other.
-use Rattle.std.proofs.Common.{IsTrue, List, None, Option, [], ap, arith, length, reverse, subst, sym, ℕ, ◌+◌, ◌++◌, ◌∙◌, ◌≡◌, ◌∷◌}
+use Rattle.std.proofs.Common.{IsTrue, List, None, Option, [], ap, ap₂, arith, length, reverse, subst, sym, ℕ, ◌+◌, ◌++◌, ◌∙◌, ◌≡◌, ◌∷◌}
 use Rattle.std.proofs.lemmas.List.{reverse-append}
+use Rattle.tl_dom_spec.specs.Marks.{Marked}
 use Rattle.tl_dom_spec.specs.Path.{Nodes, and_element, joined, no_nodes}
 use Rattle.tl_tree.proofs.Gathers.{gathered-joined}
 use Rattle.tl_tree.specs.Inner.Gathering.{Flat, Gathered, closed, flat, flushed, gathered, only_rows}
@@ -21,13 +22,13 @@ turns-push old mid new rows all held behind t p is =
     record {
       sound = p.sound;
       store = p.store ∙ t.store;
-      state = same-state (pending_of new.store.now new.pieces.items) None (flats_of new) all
-          (ap (λ s. pending_of s.now new.pieces.items) p.store ∙ (ap (pending_of mid.store.now) p.pieces ∙ ap (λ (g : Gathered). g.pending) t.state))
+      state = same-state (pending_of new.store.now new.source new.pieces.items) None (flats_of new) all
+          (ap (λ s. pending_of s.now new.source new.pieces.items) p.store ∙ (ap₂ (pending_of mid.store.now) p.source p.pieces ∙ ap (λ (g : Gathered). g.pending) t.state))
           (p.rows ∙ (ap (λ v. v ++ flat node behind ∷ []) (ap (λ (g : Gathered). g.rows) t.state) ∙ is));
       stack = p.stack ∙ t.stack;
     }
   where
-    same-state : (a b : Option (List ℕ)) (x y : List Flat) → a ≡ b → x ≡ y → (let g : Gathered = record { pending = a; rows = x } in g) ≡ (let g : Gathered = record { pending = b; rows = y } in g)
+    same-state : (a b : Option (Marked (List ℕ))) (x y : List Flat) → a ≡ b → x ≡ y → (let g : Gathered = record { pending = a; rows = x } in g) ≡ (let g : Gathered = record { pending = b; rows = y } in g)
     same-state a b x y e f =
         ap (λ v. let g : Gathered = record { pending = v; rows = x } in g) e ∙ ap (λ v. let g : Gathered = record { pending = b; rows = v } in g) f
 

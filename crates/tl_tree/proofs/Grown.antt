@@ -6,11 +6,13 @@ use Rattle.std.proofs.lemmas.Bool.{and_parts, leb-true, ltb-true}
 use Rattle.std.proofs.lemmas.List.{append_assoc, take_all}
 use Rattle.std.proofs.lemmas.Option.{same_Some}
 use Rattle.std.specs.Option.{option_map}
+use Rattle.tl_dom_spec.specs.Marks.{marked}
 use Rattle.tl_dom_spec.specs.Path.{Nodes, and_comment, and_doctype, and_element, and_text, joined, no_nodes}
 use Rattle.tl_dom_spec.specs.Tags as dom
 use Rattle.tl_html_spec.specs.Doctypes as doctypes
 use Rattle.tl_tree.proofs.Listed.{all-drop, all-take, begins-longer, begins-refl, begins-trans, map-same, mapped-front, mapped-last, part-front}
 use Rattle.tl_tree.proofs.Within.{node-more, span-bound}
+use Rattle.tl_tree.specs.Inner.NameNumbers.{number_at}
 use Rattle.tl_tree.specs.Inner.Store.{Begins, Grows, attribute_of, attribute_space_of, bytes_of, doctype_at, doctype_of, entries_of, is_attribute, is_doctype, is_node, is_span, is_tag, list_in, node_in, node_of, nodes_of, row_in, rows_from, rows_of, sizes_of, source_of, space_of, tag_at, tag_of, text_of}
 use Rattle.tl_tree.specs.Inner.Within.{Sizes, cell_is_within, cells_are_within, id_is_within, node_is_within}
 use Rattle.tl_tree.specs.declared.cell.Cell.{Cell}
@@ -101,6 +103,12 @@ unfolding tag_at
 tag-at-grown s t g n h =
     mapped-front (is_tag s) (tag_of t) (tag_of s) (tag-grown s t g) s.tags.items t.tags.items n (dom.bare_tag []) g.tags s.tags_within h
 
+-- the number of its name
+pub number-at-grown : (s t : Store) → Grows s t → (n : ℕ) → n < length s.tags.items → number_at t n ≡ number_at s n
+unfolding number_at
+number-at-grown s t g n h =
+    mapped-front (is_tag s) (λ (tag : TagEntry). tag.number) (λ (tag : TagEntry). tag.number) (λ tag own. refl) s.tags.items t.tags.items n 0 g.tags s.tags_within h
+
 id-grown : (s t : Store) → Grows s t → (id : Option Span) → IsTrue (id_is_within (length s.page.now) (length s.side.items) id) → option_map (bytes_of t) id ≡ option_map (bytes_of s) id
 id-grown s t g None h = refl
 id-grown s t g (Some span) h = ap Some (bytes-grown s t g span h)
@@ -143,10 +151,10 @@ rows-append s rows [] cells = refl
 rows-append s rows (c ∷ front) cells = rows-append s (rows ++ row_in s rows c ∷ []) front cells
 
 node-in-grown : (s t : Store) → Grows s t → (rows : List Nodes) (n : ℕ) (node : Node) → IsTrue (node_is_within (sizes_of s) n node) → node_in t rows node ≡ node_in s rows node
-node-in-grown s t g rows n (Text span) h = ap (and_text no_nodes) (bytes-grown s t g span h)
-node-in-grown s t g rows n (Comment span) h = ap (and_comment no_nodes) (bytes-grown s t g span h)
-node-in-grown s t g rows n (Doctype k) h =
-    ap (and_doctype no_nodes) (doctype-at-grown s t g k (ltb-true k (length s.doctypes.items) h))
+node-in-grown s t g rows n (Text own) h = ap (λ v. and_text no_nodes (marked own.source v)) (bytes-grown s t g own.span h)
+node-in-grown s t g rows n (Comment own) h = ap (λ v. and_comment no_nodes (marked own.source v)) (bytes-grown s t g own.span h)
+node-in-grown s t g rows n (Doctype k source) h =
+    ap (λ v. and_doctype no_nodes (marked source v)) (doctype-at-grown s t g k (ltb-true k (length s.doctypes.items) h))
 node-in-grown s t g rows n (Element tag below) h =
     let p = and_parts (nat_lt tag (length s.tags.items)) (nat_le below n) h in
     ap (λ (own : dom.Tag). and_element no_nodes own (get_or rows below no_nodes))
@@ -176,10 +184,10 @@ nodes-grown s t g n h =
 
 pub node-grown : (s t : Store) → Grows s t → (node : Node) → IsTrue (is_node s node) → node_of t node ≡ node_of s node
 unfolding node_of nodes_of
-node-grown s t g (Text span) h = ap (and_text no_nodes) (bytes-grown s t g span h)
-node-grown s t g (Comment span) h = ap (and_comment no_nodes) (bytes-grown s t g span h)
-node-grown s t g (Doctype k) h =
-    ap (and_doctype no_nodes) (doctype-at-grown s t g k (ltb-true k (length s.doctypes.items) h))
+node-grown s t g (Text own) h = ap (λ v. and_text no_nodes (marked own.source v)) (bytes-grown s t g own.span h)
+node-grown s t g (Comment own) h = ap (λ v. and_comment no_nodes (marked own.source v)) (bytes-grown s t g own.span h)
+node-grown s t g (Doctype k source) h =
+    ap (λ v. and_doctype no_nodes (marked source v)) (doctype-at-grown s t g k (ltb-true k (length s.doctypes.items) h))
 node-grown s t g (Element tag below) h =
     let p = and_parts (nat_lt tag (length s.tags.items)) (nat_le below (length s.cells.items)) h in
     ap (λ (own : dom.Tag). and_element no_nodes own (get_or (rows_of t) below no_nodes))
@@ -212,9 +220,9 @@ row-added s t g c e h row at =
 -- A cell at its place
 
 node-kept : (s : Store) (z : Sizes) (rows all : List Nodes) (n : ℕ) → ((m : ℕ) → m ≤ n → get_or all m no_nodes ≡ get_or rows m no_nodes) → (node : Node) → IsTrue (node_is_within z n node) → node_in s all node ≡ node_in s rows node
-node-kept s z rows all n kept (Text span) h = refl
-node-kept s z rows all n kept (Comment span) h = refl
-node-kept s z rows all n kept (Doctype k) h = refl
+node-kept s z rows all n kept (Text own) h = refl
+node-kept s z rows all n kept (Comment own) h = refl
+node-kept s z rows all n kept (Doctype k source) h = refl
 node-kept s z rows all n kept (Element tag below) h =
     let p = and_parts (nat_lt tag z.tags) (nat_le below n) h in
     ap (and_element no_nodes (tag_at s tag)) (kept below (leb-true below n p.1))

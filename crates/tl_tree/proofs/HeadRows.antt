@@ -128,9 +128,9 @@ less-turned s node front =
 
 pub plain-headless : (s : Store) (node : Node) → IsTrue (is_plain s node) → IsTrue (is_headless (node_of s node))
 unfolding node_of
-plain-headless s (Text span) h = refl
-plain-headless s (Comment span) h = refl
-plain-headless s (Doctype number) h = refl
+plain-headless s (Text own) h = refl
+plain-headless s (Comment own) h = refl
+plain-headless s (Doctype number source) h = refl
 plain-headless s (Element tag below) h = and_from (not (is_head (tag_at s tag))) true h refl
 plain-headless s (Joined second) h = absurd (cc)
 
@@ -149,9 +149,9 @@ headless-row s nodes new behind split =
     ∙ split.stands))
 
 pub plain-other : (s : Store) (node : Node) → is_head_node s node ≡ false → ((row : ℕ) → node ≡ Joined row → ⊥) → IsTrue (is_plain s node)
-plain-other s (Text span) h k = refl
-plain-other s (Comment span) h k = refl
-plain-other s (Doctype number) h k = refl
+plain-other s (Text own) h k = refl
+plain-other s (Comment own) h k = refl
+plain-other s (Doctype number source) h k = refl
 plain-other s (Element tag below) h k = ap not h
 plain-other s (Joined row) h k = absurd (k row refl)
 

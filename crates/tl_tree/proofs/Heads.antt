@@ -2,21 +2,22 @@
 use Rattle.std.proofs.Common.{ap, sym, ◌∙◌, ◌≡◌, ◌++◌, Bool, IsTrue, List, cond, false, not, refl, true, ℕ}
 use Rattle.std.proofs.lemmas.Bool.{and_parts, not-true}
 use Rattle.std.proofs.lemmas.List.{append_assoc}
+use Rattle.tl_dom_spec.specs.Marks.{Marked}
 use Rattle.tl_dom_spec.specs.Path.{Nodes, and_comment, and_doctype, and_element, and_text, at_head, joined, no_nodes, with_text}
 use Rattle.tl_dom_spec.specs.Tags.{Tag}
 use Rattle.tl_tree.specs.Inner.Heads.{is_head, is_headless}
 
 -- Rows of rows
 
-text-twice : (nodes : Nodes) (first second : List ℕ) → with_text (with_text nodes first) second ≡ with_text nodes (first ++ second)
+text-twice : (nodes : Nodes) (first second : Marked (List ℕ)) → with_text (with_text nodes first) second ≡ with_text nodes (record first { said = first.said ++ second.said })
 text-twice no_nodes first second = refl
-text-twice (and_text nodes bytes) first second =
-    ap (and_text nodes) (append_assoc bytes first second)
+text-twice (and_text nodes own) first second =
+    ap (λ zs. and_text nodes (record own { said = zs })) (append_assoc own.said first.said second.said)
 text-twice (and_comment nodes bytes) first second = refl
 text-twice (and_doctype nodes own) first second = refl
 text-twice (and_element nodes tag children) first second = refl
 
-joined-text : (nodes more : Nodes) (bytes : List ℕ) → joined nodes (with_text more bytes) ≡ with_text (joined nodes more) bytes
+joined-text : (nodes more : Nodes) (bytes : Marked (List ℕ)) → joined nodes (with_text more bytes) ≡ with_text (joined nodes more) bytes
 joined-text nodes no_nodes bytes = refl
 joined-text nodes (and_text more own) bytes = sym (text-twice (joined nodes more) own bytes)
 joined-text nodes (and_comment more own) bytes = refl
@@ -86,7 +87,7 @@ at-head-twice (and_element nodes tag children) first second =
 
 -- What stands behind
 
-at-head-text : (nodes : Nodes) (bytes : List ℕ) (new : Nodes) → at_head (with_text nodes bytes) new ≡ with_text (at_head nodes new) bytes
+at-head-text : (nodes : Nodes) (bytes : Marked (List ℕ)) (new : Nodes) → at_head (with_text nodes bytes) new ≡ with_text (at_head nodes new) bytes
 at-head-text no_nodes bytes new = refl
 at-head-text (and_text nodes own) bytes new = refl
 at-head-text (and_comment nodes own) bytes new = refl

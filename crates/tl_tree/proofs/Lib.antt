@@ -20,6 +20,8 @@ pub mod Written
 pub mod Settled
 pub mod Walked
 pub mod WalkLaws
+pub mod WordLists
+pub mod Outside
 pub mod Popped
 pub mod Asked
 pub mod Inserted
@@ -67,6 +69,8 @@ pub mod Rounds
 pub mod Merged
 pub mod AtRests
 pub mod KnownNames
+pub mod NamesMet
 pub mod Taken
 pub mod ReadOn
 pub mod NumberedNames
+pub mod TagsTaken

@@ -1,21 +1,44 @@
 -- The attributes of a tag with those of another one that are missing.
-use Rattle.std.proofs.Common.{Bool, IsTrue, List, ap, append-nil, arith, cond, drop, false, filter, length, length-append, length-drop, map, nat_le, not, refl, subst, sym, take, true, ℕ, [], ◌++◌, ◌+◌, ◌-◌, ◌∙◌, ◌∷◌, ◌≡◌}
+use Rattle.std.proofs.Common.{Bool, IsTrue, List, ap, append-nil, arith, cond, drop, false, filter, length, length-append, length-drop, map, nat_le, not, refl, subst, sym, take, true, ℕ, [], false, ◌++◌, ◌+◌, ◌-◌, ◌||◌, ◌∙◌, ◌∷◌, ◌≡◌}
 use Rattle.std.proofs.Math.Seq.{drop-append_seam}
-use Rattle.std.proofs.lemmas.Bool.{and_from, and_parts, le-leb}
+use Rattle.std.proofs.lemmas.Bool.{and_from, and_parts, le-leb, leb-true, or_from, or_parts}
 use Rattle.std.proofs.lemmas.List.{drop-append-le, map-append, take_all}
-use Rattle.std.specs.List.{list_all}
+use Rattle.std.specs.List.{list_all, list_any}
+use Rattle.std.specs.Str.{bytes_eq}
 use Rattle.tl_dom_spec.specs.Builder.{with_more}
 use Rattle.tl_dom_spec.specs.Tags as dom
 use Rattle.tl_tree.proofs.AlikeTags.{entries-long, entries-within, tag-parts}
-use Rattle.tl_tree.proofs.Grown.{bytes-grown, grows_trans}
+use Rattle.tl_tree.proofs.Grown.{bytes-grown, grows_trans, list-begins}
+use Rattle.tl_tree.proofs.Listed.{begins-longer}
 use Rattle.tl_tree.proofs.SaidTags.{attributes-same, span-kept}
 use Rattle.tl_tree.specs.Inner.Merging.{IsLast, is_missing, missing}
 use Rattle.tl_tree.specs.Inner.Said.{attributes_in}
 use Rattle.tl_tree.specs.Inner.Store.{Grows, attribute_of, bytes_of, entries_of, is_attribute, is_span, is_tag, list_in, source_of, space_of, tag_of}
+use Rattle.tl_tree.specs.Inner.Within.{key_in}
 use Rattle.tl_tree.specs.declared.entries.AttributeEntry.{AttributeEntry}
 use Rattle.tl_tree.specs.declared.entries.AttributeList.{AttributeList}
 use Rattle.tl_tree.specs.declared.entries.TagEntry.{TagEntry}
 use Rattle.tl_tree.specs.declared.store.Store.{Store}
+
+-- where the keys of the text are none
+pub none-keyed : (s : Store) (key own : List ℕ) (xs : List AttributeEntry) → own ≡ key → list_any (λ a. bytes_eq (key_in (s.page.now ++ s.side.items) a) own) xs ≡ false → dom.has_attribute key (attributes_in s xs) ≡ false
+unfolding bytes_of
+none-keyed s key own [] same none = refl
+none-keyed s key own (x ∷ xs) same none =
+    let test = λ (a : AttributeEntry). bytes_eq (key_in (s.page.now ++ s.side.items) a) own in
+    let p = or_parts (test x) (list_any test xs) none in
+    or_from (bytes_eq (bytes_of s x.key) key) (dom.has_attribute key (attributes_in s xs))
+    (ap (bytes_eq (bytes_of s x.key)) (sym same) ∙ p.0)
+    (none-keyed s key own xs same p.1)
+
+pub tag-kept : (s t : Store) → Grows s t → (tag : TagEntry) → IsTrue (is_tag s tag) → IsTrue (is_tag t tag)
+tag-kept s t g tag h =
+    let end = tag.first_attribute + tag.attribute_count in
+    let p = and_parts (is_span s tag.name) (nat_le end (length (list_in s tag.list))) h in
+    let longer = begins-longer (list_in s tag.list) (list_in t tag.list) (list-begins s t g tag.list) in
+    let old = leb-true end (length (list_in s tag.list)) p.1 in
+    and_from (is_span t tag.name) (nat_le end (length (list_in t tag.list))) (span-kept s t g tag.name p.0)
+    (le-leb end (length (list_in t tag.list)) (omega (arith, longer, old)))
 
 all-filtered : {A : Type 0} (test own : A → Bool) (xs : List A) → IsTrue (list_all test xs) → IsTrue (list_all test (filter own xs))
 all-filtered test own [] all = refl

@@ -1,6 +1,6 @@
 -- Names by their numbers: what a number says of a name is what its bytes do.
-use Rattle.std.proofs.Common.{List, [], ap, arith, cond, false, get_or, inl, inr, length, map, nat_eq, nat_lt, refl, sym, true, true≢false, ℕ, Bool, ◌&&◌, ◌++◌, ◌<◌, ◌||◌, ◌∙◌, ◌∷◌, ◌≡◌}
-use Rattle.std.proofs.lemmas.Bool.{and_parts, cases_Bool, false_from_ne_true, ltb-true}
+use Rattle.std.proofs.Common.{List, Some, [], ap, arith, cond, false, get_or, inl, inr, length, map, nat_eq, not, refl, sym, true, true≢false, ℕ, Bool, ◌&&◌, ◌++◌, ◌<◌, ◌||◌, ◌∙◌, ◌∷◌, ◌≡◌}
+use Rattle.std.proofs.lemmas.Bool.{and_parts, cases_Bool, false_from_ne_true, not-true}
 use Rattle.std.proofs.lemmas.Slice.Eq.{bytes_eq-Decides}
 use Rattle.std.specs.List.{list_all, list_any}
 use Rattle.std.specs.Prelude.{replicate}
@@ -14,11 +14,12 @@ use Rattle.tl_names.specs.TagSets.{is_of, names_in}
 use Rattle.tl_names.specs.declared.class.Class.{Class}
 use Rattle.tl_names.specs.declared.element_name.ElementName.{ElementName}
 use Rattle.tl_tree.proofs.Written.{all-at}
+use Rattle.tl_tree.specs.Inner.MetNames.{in_lower_case, lowered_number, number_among, number_in}
 use Rattle.tl_tree.specs.Inner.NameLists.{list_of}
-use Rattle.tl_tree.specs.Inner.Roles.{bucket_of}
 use Rattle.tl_tree.specs.declared.names.Names.{Names}
 use Rattle.tl_tree.specs.declared.names.Names.TheVariants as N
-use Rattle.tl_tree.specs.declared.role.TheConstants.{KNOWN_BUCKETS}
+use Rattle.tl_tree.specs.declared.met_names.MetNames.{MetNames}
+use Rattle.tl_tree.specs.declared.met_names.TheConstants.{KNOWN_NUMBERS}
 
 -- Classes, and single names
 
@@ -94,31 +95,46 @@ list-told names members name n is e =
     ap (list_any (λ (own : ElementName). nat_eq name.number own.number)) is
     ∙ any-told (words (list_of names)) name n (each-listed names) e
 
--- Lists of the names of elements on a path
+-- Numbers of names in any case
 
-abbrev listed-bucket : List ℕ → ℕ
-listed-bucket n = cond (is_among element_names n) (bucket_of n) 0
-
--- by computing
-each-bucket : map (λ (k : ℕ). k) KNOWN_BUCKETS ≡ map listed-bucket (element_names ++ replicate 97 [])
-unfolding element_names
-each-bucket = refl
-
-other-bucket : (n : List ℕ) → is_among element_names n ≡ false → listed-bucket n ≡ listed-bucket []
-unfolding element_names
-other-bucket n m = ap (λ b. cond b (bucket_of n) 0) m
-
-pub bucket-told : (name : ElementName) (n : List ℕ) → is_among element_names n ≡ true → name ≡ name_of n → get_or KNOWN_BUCKETS name.number 0 ≡ bucket_of n
-bucket-told name n listed e =
-    ap (λ (own : ElementName). get_or KNOWN_BUCKETS own.number 0) e
-    ∙ (by_row (λ (k : ℕ). k) listed-bucket KNOWN_BUCKETS 0 97 (omega arith) each-bucket other-bucket n
-    ∙ ap (λ b. cond b (bucket_of n) 0) listed)
+abbrev cased-number : List ℕ → ℕ
+cased-number n = cond (is_among element_names n) (name_of (in_lower_case n)).number 0
 
 -- by computing
-each-below : list_all (λ (k : ℕ). nat_lt k 4093) KNOWN_BUCKETS ≡ true
-each-below = refl
+each-number : map (λ (k : ℕ). k) KNOWN_NUMBERS ≡ map cased-number (element_names ++ replicate 97 [])
+unfolding element_names name_of
+each-number = refl
 
-pub bucket-below : (number : ℕ) → number < length KNOWN_BUCKETS → get_or KNOWN_BUCKETS number 0 < 4093
-bucket-below number h =
-    ltb-true (get_or KNOWN_BUCKETS number 0) 4093
-    (all-at (λ (k : ℕ). nat_lt k 4093) KNOWN_BUCKETS number (get_or KNOWN_BUCKETS number 0) 0 refl h each-below)
+other-number : (n : List ℕ) → is_among element_names n ≡ false → cased-number n ≡ cased-number []
+unfolding element_names
+other-number n m = ap (λ b. cond b (name_of (in_lower_case n)).number 0) m
+
+pub number-told : (name : ElementName) (n : List ℕ) → is_among element_names n ≡ true → name ≡ name_of n → get_or KNOWN_NUMBERS name.number 0 ≡ (name_of (in_lower_case n)).number
+number-told name n listed e =
+    ap (λ (own : ElementName). get_or KNOWN_NUMBERS own.number 0) e
+    ∙ (by_row (λ (k : ℕ). k) cased-number KNOWN_NUMBERS 0 97 (omega arith) each-number other-number n
+    ∙ ap (λ b. cond b (name_of (in_lower_case n)).number 0) listed)
+
+abbrev is_numbered : List ℕ → Bool
+is_numbered n = not (nat_eq (name_of (in_lower_case n)).number 159)
+
+-- by computing, each name is one in lower case too
+each-lowered : list_all is_numbered element_names ≡ true
+unfolding element_names name_of
+each-lowered = refl
+
+listed-lowered : (xs : List (List ℕ)) (n : List ℕ) → list_all is_numbered xs ≡ true → is_among xs n ≡ true → is_numbered n ≡ true
+listed-lowered [] n all listed = absurd (true≢false (sym listed))
+listed-lowered (x ∷ xs) n all listed =
+    let p = and_parts (is_numbered x) (list_all is_numbered xs) all in
+    elim (cases_Bool (bytes_eq n x)) [
+      | inl same ↦ ap is_numbered ((bytes_eq-Decides n x).0 same) ∙ p.0
+      | inr other ↦ listed-lowered xs n p.1 (sym (ap (λ b. b || is_among xs n) other) ∙ listed)
+    ]
+
+-- the number of a name that is known
+pub known-number : (names : MetNames) (n : List ℕ) → is_among element_names n ≡ true → number_in names n ≡ Some (name_of (in_lower_case n)).number
+unfolding lowered_number
+known-number names n listed =
+    ap (λ b. cond b (number_among names.numbers.entries (in_lower_case n)) (Some (name_of (in_lower_case n)).number))
+    (not-true (nat_eq (name_of (in_lower_case n)).number 159) (listed-lowered element_names n each-lowered listed))

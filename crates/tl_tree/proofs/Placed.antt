@@ -164,8 +164,8 @@ moved-here s block new f h =
   where
     here-stays : (place : Place) → IsTrue (goes_here place) → moved_place block new (place_of place) ≡ place_of place
     here-stays Here h = refl
-    here-stays (Into mark) h = absurd (false≢true h)
-    here-stays (Behind mark) h = absurd (false≢true h)
+    here-stays (Into number) h = absurd (false≢true h)
+    here-stays (Behind number) h = absurd (false≢true h)
     here-stays IntoHead h = refl
 
 -- where none goes elsewhere, none is moved

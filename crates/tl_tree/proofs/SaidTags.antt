@@ -12,18 +12,15 @@ use Rattle.std.specs.Str.{bytes_eq}
 use Rattle.tl_dom_spec.specs.Tags as dom
 use Rattle.tl_html_parts.proofs.Attributes.{with_more}
 use Rattle.tl_html_parts.specs.Parts.{attributes_of, name_of, value_of, with_attributes}
-use Rattle.tl_html_parts.specs.Places.{IsAttributeAt, IsPart, part_in}
-use Rattle.tl_html_parts.specs.Rest.{HasRest}
+use Rattle.tl_html_parts.specs.Places.{pair_in, pairs_in, part_in}
 use Rattle.tl_html_parts.specs.declared.place.AttributePlace.{AttributePlace}
 use Rattle.tl_html_parts.specs.declared.place.PartPlace.{PartPlace}
 use Rattle.tl_html_spec.specs.HtmlTokenizer.{HtmlAttribute, HtmlToken, OpenTag, new_tag, with_attribute}
-use Rattle.tl_html_tokens.specs.Whole.{IsWhole}
-use Rattle.tl_html_tokens.specs.declared.mode.Mode.{Mode}
 use Rattle.tl_names.specs.declared.element_name.TheConstants.ElementName.{OTHER}
 use Rattle.tl_tree.proofs.Grown.{attribute-grown, bytes-grown}
 use Rattle.tl_tree.proofs.Listed.{all-weaker, begins-longer, map-same, map-take, part-front}
 use Rattle.tl_tree.proofs.Within.{attribute-more, span-more}
-use Rattle.tl_tree.specs.Inner.Said.{AreKeysBehind, AreRead, IsRestRead, attributes_in, attributes_so_far, has_key, key_order, keys_in, piece_at, tag_with, with_key}
+use Rattle.tl_tree.specs.Inner.Said.{AreKeysBehind, attributes_in, attributes_so_far, has_key, key_order, keys_in, tag_with, with_key}
 use Rattle.tl_tree.specs.Inner.Store.{Grows, attribute_of, bytes_of, is_attribute, is_span, list_in, tag_of}
 use Rattle.tl_tree.specs.Inner.Within.{attribute_is_within, span_is_within}
 use Rattle.tl_tree.specs.declared.entries.AttributeEntry.{AttributeEntry}
@@ -181,30 +178,7 @@ behind-more keys old new known own key is many first updates q =
     ∙ (or-from_cond (bytes_eq key q.items) (has_key q.items (drop 16 keys))
     ∙ with-one keys key q.items many (has_key key keys) refl first))
 
--- Parts of a tag that ends in a page
-
-pub piece-from : (page : List ℕ) (start end : ℕ) → start ≤ end → drop start (take end page) ≡ take (end - start) (drop start page)
-piece-from page start end order =
-    let all : end ≡ start + (end - start) = omega arith in
-    ap (λ n. drop start (take n page)) all ∙ drop-take start (end - start) page
-
-pub part-before : (page : List ℕ) (end : ℕ) (said : List ℕ → List ℕ) (p : PartPlace) → IsPart said (take end page) p → part_in (take end page) p ≡ part_in page p
-part-before page end said p own =
-    let many = length-take end page in
-    let within = own.within in
-    let order = own.order in
-    ap (take (p.end - p.start)) (piece-from page p.start end (omega arith)) ∙ take-take (p.end - p.start) (end - p.start) (drop p.start page) (omega arith)
-
-pub part-on : (page : List ℕ) (end : ℕ) (said : List ℕ → List ℕ) (p : PartPlace) → IsPart said (take end page) p → IsPart said page p
-part-on page end said p own =
-    let many = length-take end page in
-    let within = own.within in
-    let same = part-before page end said p own in
-    record {
-      order = own.order;
-      within = omega arith;
-      plain = λ kept. ap said (sym same) ∙ (own.plain kept ∙ same);
-    }
+-- Parts of a tag of a page
 
 pub page-part : (s : Store) (p : PartPlace) (span : Span) → span.start ≡ p.start → span.len ≡ p.end - p.start → p.start ≤ p.end → p.end ≤ length s.page.now → bytes_of s span ≡ part_in s.page.now p
 unfolding bytes_of
@@ -213,29 +187,14 @@ page-part s p span start len order within =
     ∙ (ap (λ n. take (p.end - p.start) (drop n (s.page.now ++ s.side.items))) start
     ∙ part-front (p.end - p.start) p.start s.page.now s.side.items (omega arith))
 
--- nothing is read yet
-pub none-read : (text : List ℕ) (from : ℕ) → AreRead text from from []
-none-read text from = record { pairs = []; rest = λ more closes has. has; stands = refl }
-
 -- one attribute more
-pub one-read : (text : List ℕ) (from at : ℕ) (a : AttributePlace) (own now : List dom.Attribute) → AreRead text from at own → IsAttributeAt text at a →
-    ((tag : OpenTag) → own ≡ attributes_so_far tag → now ≡ attributes_so_far (with_attribute tag (name_of (part_in text a.key)) (value_of (part_in text a.value)))) → AreRead text from a.end now
-one-read text from at a own now read next put =
-    let pair : List ℕ × List ℕ = (part_in text a.key, part_in text a.value) in
-    record {
-      pairs = read.pairs ++ pair ∷ [];
-      rest = λ more closes has. subst (λ (xs : List (List ℕ × List ℕ)). HasRest (drop from text) xs closes) (sym (append_assoc read.pairs (pair ∷ []) more)) (read.rest (pair ∷ more) closes (next.rest more closes has));
-      stands = put (with_attributes (new_tag false) read.pairs) read.stands ∙ ap attributes_so_far (sym (with_more (new_tag false) read.pairs pair));
-    }
+pub one-more : (page : List ℕ) (xs ys : List AttributePlace) (a : AttributePlace) (own now : List dom.Attribute) → ys ≡ xs ++ a ∷ [] → own ≡ map dom.plain_attribute (attributes_of (pairs_in page xs)) →
+    ((tag : OpenTag) → own ≡ attributes_so_far tag → now ≡ attributes_so_far (with_attribute tag (name_of (part_in page a.key)) (value_of (part_in page a.value)))) → now ≡ map dom.plain_attribute (attributes_of (pairs_in page ys))
+one-more page xs ys a own now is stands put =
+    put (with_attributes (new_tag false) (pairs_in page xs)) stands
+    ∙ (ap attributes_so_far (sym (with_more (new_tag false) (pairs_in page xs) (pair_in page a)))
+    ∙ ap (λ (ps : List (List ℕ × List ℕ)). map dom.plain_attribute (attributes_of ps)) (sym (ap (pairs_in page) is ∙ map-append (pair_in page) xs (a ∷ []))))
 
-pub all-read : (text : List ℕ) (from at : ℕ) (closes : Bool) (own : List dom.Attribute) → AreRead text from at own → HasRest (drop at text) [] closes → IsRestRead text from closes own
-all-read text from at closes own read last = record {
-  pairs = read.pairs;
-  rest = subst (λ (xs : List (List ℕ × List ℕ)). HasRest (drop from text) xs closes) (append-nil read.pairs) (read.rest [] closes last);
-  stands = read.stands;
-}
-
--- bytes that stand in the page
 pub page-bytes : (s : Store) (place : ℕ) (bytes : List ℕ) (span : Span) → span.start ≡ place → span.len ≡ length bytes → place + length bytes ≤ length s.page.now → take (length bytes) (drop place s.page.now) ≡ bytes → bytes_of s span ≡ bytes
 unfolding bytes_of
 page-bytes s place bytes span start len within stands =
@@ -266,18 +225,9 @@ last-entries front xs items first all put first_is all_is =
 pub tag-put : (s u : Store) → Grows s u → (span : Span) → IsTrue (is_span s span) →
     (xs : List AttributeEntry) → IsTrue (list_all (is_attribute s) xs) → list_in u Tags ≡ list_in s Tags ++ xs →
     (first all : ℕ) → first ≡ length (list_in s Tags) → all ≡ length (list_in u Tags) →
-    tag_of u (record { space = Html; name = span; known = OTHER; list = Tags; first_attribute = first; attribute_count = all - first; start = 0 }) ≡ tag_with (bytes_of s span) (attributes_in s xs)
+    tag_of u (record { space = Html; name = span; known = OTHER; number = 0; list = Tags; first_attribute = first; attribute_count = all - first; start = 0 }) ≡ tag_with (bytes_of s span) (attributes_in s xs)
 unfolding tag_of
 tag-put s u g span within xs all_within put first all first_is all_is =
     ap (λ (n : List ℕ). record { space = dom.html_space; name = n; attributes = attributes_in u (take (all - first) (drop first (list_in u Tags))); source = None }) (bytes-grown s u g span within)
     ∙ ap (tag_with (bytes_of s span))
     (ap (attributes_in u) (last-entries (list_in s Tags) xs (list_in u Tags) first all put first_is all_is) ∙ attributes-same s u g xs all_within)
-
--- a tag by what was read of it
-pub tag-of-parts : (t : Store) (span : Span) (xs room : List AttributeEntry) → xs ≡ room → (text : List ℕ) (from : ℕ) (closes : Bool) (name : List ℕ) → bytes_of t span ≡ name →
-    (read : IsRestRead text from closes (attributes_in t room)) → tag_with (bytes_of t span) (attributes_in t xs) ≡ dom.html_tag name (attributes_of read.pairs)
-tag-of-parts t span xs room same text from closes name named read =
-    ap₂ tag_with named (ap (attributes_in t) same ∙ read.stands)
-
-pub whole-from : (page : List ℕ) (start end : ℕ) (mode : Mode) (tokens : List HtmlToken) → start ≤ end → IsWhole mode (piece_at page start end) tokens → IsWhole mode (drop start (take end page)) tokens
-whole-from page start end mode tokens order whole = subst (λ (bytes : List ℕ). IsWhole mode bytes tokens) (sym (piece-from page start end order)) whole

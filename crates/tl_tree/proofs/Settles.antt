@@ -4,6 +4,7 @@ use Rattle.std.proofs.Math.Seq.{drop-append_seam, take-add}
 use Rattle.std.proofs.lemmas.Bool.{and_from, and_parts, le-leb, leb-true, or_cases}
 use Rattle.std.proofs.lemmas.List.{append-nil, append_assoc}
 use Rattle.std.specs.List.{list_all}
+use Rattle.tl_dom_spec.specs.Marks.{marked}
 use Rattle.tl_tree.proofs.Listed.{all-weaker, map-same, part-front}
 use Rattle.tl_tree.proofs.Within.{or-left, or-right, span-bound, span-more}
 use Rattle.tl_tree.specs.Inner.Gathering.{flat, text_before}
@@ -66,25 +67,28 @@ pieces-more s [] piece = sym (append-nil (bytes_of s piece))
 pieces-more s (own ∷ pieces) piece =
     ap (λ v. v ++ bytes_of s own) (pieces-more s pieces piece) ∙ append_assoc (bytes_of s piece) (text_of_pieces s pieces) (bytes_of s own)
 
-pending-some : (s : Store) (pieces : List Span) (piece : Span) → pending_of s (pieces ++ piece ∷ []) ≡ Some (bytes_of s piece ++ text_of_pieces s pieces)
-pending-some s [] piece = ap (λ v. Some v) (sym (append-nil (bytes_of s piece)))
-pending-some s (own ∷ pieces) piece = ap (λ v. Some v) (pieces-more s (own ∷ pieces) piece)
+pending-some : (s : Store) (n : ℕ) (pieces : List Span) (piece : Span) → pending_of s n (pieces ++ piece ∷ []) ≡ Some (marked n (bytes_of s piece ++ text_of_pieces s pieces))
+pending-some s n [] piece = ap (λ v. Some (marked n v)) (sym (append-nil (bytes_of s piece)))
+pending-some s n (own ∷ pieces) piece = ap (λ v. Some (marked n v)) (pieces-more s (own ∷ pieces) piece)
 
-pub pending-pushed : (s : Store) (pieces all : List Span) (piece : Span) → all ≡ pieces ++ piece ∷ [] → pending_of s all ≡ text_before (bytes_of s piece) (pending_of s pieces)
-pending-pushed s [] all piece e = ap (pending_of s) e
-pending-pushed s (own ∷ pieces) all piece e = ap (pending_of s) e ∙ pending-some s (own ∷ pieces) piece
+-- whatever stood before the pieces so far
+pub pending-pushed : (s : Store) (n m : ℕ) (pieces all : List Span) (piece : Span) → all ≡ pieces ++ piece ∷ [] → pending_of s n all ≡ text_before (marked n (bytes_of s piece)) (pending_of s m pieces)
+pending-pushed s n m [] all piece e = ap (pending_of s n) e ∙ pending-some s n [] piece ∙ ap (λ v. Some (marked n v)) (append-nil (bytes_of s piece))
+pending-pushed s n m (own ∷ pieces) all piece e = ap (pending_of s n) e ∙ pending-some s n (own ∷ pieces) piece
 
 -- a piece that is lengthened to the front
-pub pending-merged : (s : Store) (pieces old all : List Span) (piece next both : Span) → old ≡ pieces ++ next ∷ [] → all ≡ pieces ++ both ∷ [] → bytes_of s both ≡ bytes_of s piece ++ bytes_of s next → pending_of s all ≡ text_before (bytes_of s piece) (pending_of s old)
-pending-merged s pieces old all piece next both was is bytes =
-    ap (pending_of s) is ∙ (pending-some s pieces both
-    ∙ (ap (λ v. Some (v ++ text_of_pieces s pieces)) bytes
-    ∙ (ap (λ v. Some v) (append_assoc (bytes_of s piece) (bytes_of s next) (text_of_pieces s pieces))
-    ∙ ap (text_before (bytes_of s piece)) (sym (ap (pending_of s) was ∙ pending-some s pieces next)))))
+pub pending-merged : (s : Store) (n m : ℕ) (pieces old all : List Span) (piece next both : Span) → old ≡ pieces ++ next ∷ [] → all ≡ pieces ++ both ∷ [] → bytes_of s both ≡ bytes_of s piece ++ bytes_of s next →
+    pending_of s n all ≡ text_before (marked n (bytes_of s piece)) (pending_of s m old)
+pending-merged s n m pieces old all piece next both was is bytes =
+    ap (pending_of s n) is ∙ (pending-some s n pieces both
+    ∙ (ap (λ v. Some (marked n (v ++ text_of_pieces s pieces))) bytes
+    ∙ (ap (λ v. Some (marked n v)) (append_assoc (bytes_of s piece) (bytes_of s next) (text_of_pieces s pieces))
+    ∙ ap (text_before (marked n (bytes_of s piece))) (sym (ap (pending_of s m) was ∙ pending-some s m pieces next)))))
 
-pub pending-again : (s : Store) (pieces old mid all : List Span) (piece next : Span) → old ≡ pieces ++ next ∷ [] → mid ≡ pieces ++ next ∷ [] → all ≡ mid ++ piece ∷ [] → pending_of s all ≡ text_before (bytes_of s piece) (pending_of s old)
-pending-again s pieces old mid all piece next was is last =
-    pending-pushed s mid all piece last ∙ ap (λ v. text_before (bytes_of s piece) (pending_of s v)) (is ∙ sym was)
+pub pending-again : (s : Store) (n m : ℕ) (pieces old mid all : List Span) (piece next : Span) → old ≡ pieces ++ next ∷ [] → mid ≡ pieces ++ next ∷ [] → all ≡ mid ++ piece ∷ [] →
+    pending_of s n all ≡ text_before (marked n (bytes_of s piece)) (pending_of s m old)
+pending-again s n m pieces old mid all piece next was is last =
+    pending-pushed s n m mid all piece last ∙ ap (λ v. text_before (marked n (bytes_of s piece)) (pending_of s m v)) (is ∙ sym was)
 
 pub all-last : {A : Type 0} (test : A → Bool) (xs all : List A) (x : A) → all ≡ xs ++ x ∷ [] → IsTrue (list_all test xs) → IsTrue (test x) → IsTrue (list_all test all)
 all-last test xs all x e h k = subst (λ v. IsTrue (list_all test v)) (sym e) (pushed test xs x h k)
@@ -124,28 +128,28 @@ text-again s copied more span h =
 pub held-again : (s : Store) (copied more : List ℕ) (held : Held) → IsTrue (held_is_within (sizes_with s copied) held) → held_in s (text_with s (copied ++ more)) held ≡ held_in s (text_with s copied) held
 held-again s copied more (held.Element tag) h = refl
 held-again s copied more held.Contents h = refl
-held-again s copied more (held.Text span) h = ap rows.a_text (text-again s copied more span h)
-held-again s copied more (held.Comment span) h = ap rows.a_comment (text-again s copied more span h)
-held-again s copied more (held.Doctype n) h = refl
+held-again s copied more (held.Text own) h = ap (λ v. rows.a_text (marked own.source v)) (text-again s copied more own.span h)
+held-again s copied more (held.Comment own) h = ap (λ v. rows.a_comment (marked own.source v)) (text-again s copied more own.span h)
+held-again s copied more (held.Doctype n source) h = refl
 
 pub held-same : (s : Store) (more : List ℕ) (held : Held) → IsTrue (held_is_within (sizes_of s) held) → held_in s (text_with s more) held ≡ held_in s (text_of s) held
 unfolding bytes_of
 held-same s more (held.Element tag) h = refl
 held-same s more held.Contents h = refl
-held-same s more (held.Text span) h = ap rows.a_text (grown-bytes s more span h)
-held-same s more (held.Comment span) h = ap rows.a_comment (grown-bytes s more span h)
-held-same s more (held.Doctype n) h = refl
+held-same s more (held.Text own) h = ap (λ v. rows.a_text (marked own.source v)) (grown-bytes s more own.span h)
+held-same s more (held.Comment own) h = ap (λ v. rows.a_comment (marked own.source v)) (grown-bytes s more own.span h)
+held-same s more (held.Doctype n source) h = refl
 
 held-more : (s : Store) (copied more : List ℕ) (held : Held) → IsTrue (held_is_within (sizes_with s copied) held) → IsTrue (held_is_within (sizes_with s (copied ++ more)) held)
 held-more s copied more (held.Element tag) h = h
 held-more s copied more held.Contents h = h
-held-more s copied more (held.Text span) h =
+held-more s copied more (held.Text own) h =
     let many = length-append copied more in
-    span-more (length s.page.now) (length s.side.items + length copied) (length s.side.items + length (copied ++ more)) span (omega (arith, many)) h
-held-more s copied more (held.Comment span) h =
+    span-more (length s.page.now) (length s.side.items + length copied) (length s.side.items + length (copied ++ more)) own.span (omega (arith, many)) h
+held-more s copied more (held.Comment own) h =
     let many = length-append copied more in
-    span-more (length s.page.now) (length s.side.items + length copied) (length s.side.items + length (copied ++ more)) span (omega (arith, many)) h
-held-more s copied more (held.Doctype n) h = h
+    span-more (length s.page.now) (length s.side.items + length copied) (length s.side.items + length (copied ++ more)) own.span (omega (arith, many)) h
+held-more s copied more (held.Doctype n source) h = h
 
 pub rows-more : (s : Store) (copied more all : List ℕ) (written : List Row) → all ≡ copied ++ more → IsTrue (list_all (row_is_within (sizes_with s copied)) written) → IsTrue (list_all (row_is_within (sizes_with s all)) written)
 rows-more s copied more all written e h =

@@ -1,7 +1,7 @@
 -- From where on no frame of a path passes a test: what the entered elements say of the frames, and
 -- which tests pass less than others.
-use Rattle.std.proofs.Common.{IsTrue, List, Some, [], ap, arith, drop, false, get_or, length, map, nat_eq, not, refl, subst, suc, sym, take, true, zero, ℕ, Bool, ◌%◌, ◌*◌, ◌+◌, ◌++◌, ◌-◌, ◌<◌, ◌≤◌, ◌||◌, ◌∙◌, ◌∷◌, ◌≡◌}
-use Rattle.std.proofs.lemmas.Bool.{and_from, and_parts, eq-eqb, false≢true, or_parts}
+use Rattle.std.proofs.Common.{IsTrue, List, None, Some, [], ap, arith, drop, false, get_or, inl, inr, length, map, not, refl, subst, suc, sym, take, true, zero, ℕ, Bool, ◌==◌, ◌+◌, ◌++◌, ◌-◌, ◌<◌, ◌≤◌, ◌||◌, ◌∙◌, ◌∷◌, ◌≡◌}
+use Rattle.std.proofs.lemmas.Bool.{and_from, and_parts, cases_Bool, eq-eqb, false≢true, or_parts}
 use Rattle.std.proofs.lemmas.List.{drop-map, drop_all, get_or-drop, length-drop, length-map, take_all}
 use Rattle.std.proofs.lemmas.List.Folds.{list_all-map, list_any-append}
 use Rattle.std.proofs.lemmas.Option.{same_Some}
@@ -15,20 +15,25 @@ use Rattle.tl_dom_spec.specs.Path as dom
 use Rattle.tl_dom_spec.specs.Tags.{Namespace, Tag, by_space, html_space, is_any, is_html, is_item_bound, is_math_mark, is_named, is_special, is_special_name, is_svg_mark, math_space, svg_space}
 use Rattle.tl_html_spec.specs.Balanced.{is_one_of, words}
 use Rattle.tl_names.specs.Elements.{is_among, special_names}
+use Rattle.tl_tree.proofs.KnownNames.{cased-number}
 use Rattle.tl_tree.proofs.Listed.{map-take}
 use Rattle.tl_tree.proofs.Numbered.{found-any, found-within}
-use Rattle.tl_tree.proofs.Written.{all-at, frames-length}
+use Rattle.tl_tree.proofs.Written.{all-at, frames-length, parts-of}
 use Rattle.tl_tree.specs.Inner.Adopted.{frame_at}
 use Rattle.tl_tree.specs.Inner.Entered.{entered, entered_of}
 use Rattle.tl_tree.specs.Inner.Framed.{are_distinct, numbers}
 use Rattle.tl_tree.specs.Inner.Framed as framed
-use Rattle.tl_tree.specs.Inner.Frames.{frame_of, frames_of}
-use Rattle.tl_tree.specs.Inner.Limits.{is_in_bucket, is_of_kind, none_from}
-use Rattle.tl_tree.specs.Inner.Roles.{bucket_from, bucket_of, is_elsewhere, is_not_of}
+use Rattle.tl_tree.specs.Inner.Frames.{frame_of, frames_of, is_frame}
+use Rattle.tl_tree.specs.Inner.Limits.{is_lowered, is_of_kind, none_from}
+use Rattle.tl_tree.specs.Inner.MetNames.{in_lower_case, number_in}
+use Rattle.tl_tree.specs.Inner.NameNumbers.{number_at}
+use Rattle.tl_tree.specs.Inner.Roles.{is_elsewhere, is_not_of, is_of, role_of}
+use Rattle.tl_tree.specs.Inner.Store.{tag_at}
 use Rattle.tl_tree.specs.declared.frame.Frame.{Frame}
 use Rattle.tl_tree.specs.declared.path.FramePath.{FramePath}
 use Rattle.tl_tree.specs.declared.role.Entered.{Entered}
 use Rattle.tl_tree.specs.declared.role.Kind.{Kind}
+use Rattle.tl_tree.specs.declared.role.Kind.TheVariants.{Decisive, Html, ItemBound, Scope, Special}
 use Rattle.tl_tree.specs.declared.store.Store.{Store}
 
 -- Lists
@@ -138,10 +143,47 @@ entered-none test own p n w known h =
     (sym (mapped test (entered_of s) n xs) ∙ (ap (λ all. list_all test (drop n all)) (sym known) ∙ h))
 
 pub kind-none : (kind : Kind) (p : FramePath) (n : ℕ) → entered p.scopes ≡ map (entered_of p.store) p.frames.items → IsTrue (list_all (is_not_of kind) (drop n (entered p.scopes))) → IsTrue (none_from (is_of_kind kind) p n)
-kind-none kind p n known h = entered-none (is_not_of kind) (is_of_kind kind) p n (λ f k. k) known h
+kind-none kind p n known h =
+    entered-none (is_not_of kind) (is_of_kind kind) p n
+    (λ f k. ap not (kind-alone kind (tag_at p.store f.tag) 0 (number_at p.store f.tag)) ∙ k) known h
+  where
+    kind-alone : (kind : Kind) (t : Tag) (m n : ℕ) → is_of kind (role_of t m) ≡ is_of kind (role_of t n)
+    kind-alone Scope t m n = refl
+    kind-alone ItemBound t m n = refl
+    kind-alone Special t m n = refl
+    kind-alone Decisive t m n = refl
+    kind-alone Html t m n = refl
 
-pub name-none : (bucket : ℕ) (p : FramePath) (n : ℕ) → entered p.scopes ≡ map (entered_of p.store) p.frames.items → IsTrue (list_all (is_elsewhere bucket) (drop n (entered p.scopes))) → IsTrue (none_from (is_in_bucket bucket) p n)
-name-none bucket p n known h = entered-none (is_elsewhere bucket) (is_in_bucket bucket) p n (λ f k. k) known h
+-- the name of no frame is one that differs in case alone from one of another number
+entered-other : (name : List ℕ) (p : FramePath) (f : Frame) → ((number : ℕ) → number_in p.store.names name ≡ Some number → not (number_at p.store f.tag == number) ≡ true) → IsTrue (is_frame p f) → not (is_lowered (in_lower_case name) (frame_of p.store f)) ≡ true
+entered-other name p f other within =
+    let s = p.store in
+    let own = in_lower_case (tag_at s f.tag).name in
+    elim (cases_Bool (bytes_eq own (in_lower_case name))) [
+      | inl same ↦ (let number = cased-number s f.tag name (parts-of s f within).tag ((bytes_eq-Decides own (in_lower_case name)).0 same) in
+          absurd (false≢true (ap not (sym (eq-eqb (number_at s f.tag) (number_at s f.tag) refl)) ∙ other (number_at s f.tag) number)))
+      | inr differs ↦ ap not differs
+    ]
+
+pub name-none : (name : List ℕ) (number : ℕ) (p : FramePath) (n : ℕ) → number_in p.store.names name ≡ Some number → entered p.scopes ≡ map (entered_of p.store) p.frames.items → IsTrue (list_all (is_elsewhere number) (drop n (entered p.scopes))) → IsTrue (none_from (is_lowered (in_lower_case name)) p n)
+unfolding none_from frames_of
+name-none name number p n is known h =
+    let s = p.store in
+    let xs = p.frames.items in
+    mapped (λ f. not (is_lowered (in_lower_case name) f)) (frame_of s) n xs
+    ∙ all-both (λ f. is_elsewhere number (entered_of s f)) (is_frame p) (λ f. not (is_lowered (in_lower_case name) (frame_of s f)))
+    (λ f elsewhere within. entered-other name p f (λ own e. subst (λ (k : ℕ). not (number_at s f.tag == k) ≡ true) (same_Some number own (sym is ∙ e)) elsewhere) within)
+    (drop n xs)
+    (sym (mapped (is_elsewhere number) (entered_of s) n xs) ∙ (ap (λ all. list_all (is_elsewhere number) (drop n all)) (sym known) ∙ h))
+    (all-further (is_frame p) 0 n xs (omega arith) p.within)
+
+-- of a name that was never met
+pub unmet-none : (name : List ℕ) (p : FramePath) → number_in p.store.names name ≡ None → IsTrue (none_from (is_lowered (in_lower_case name)) p 0)
+unfolding none_from frames_of
+unmet-none name p is =
+    mapped (λ f. not (is_lowered (in_lower_case name) f)) (frame_of p.store) 0 p.frames.items
+    ∙ all-weaker (is_frame p) (λ f. not (is_lowered (in_lower_case name) (frame_of p.store f)))
+    (λ f within. entered-other name p f (λ number e. absurd (cc)) within) p.frames.items p.within
 
 -- one has it, and none behind that
 
@@ -214,29 +256,30 @@ number-within k i p e =
 
 -- Names
 
-bucket-low : (so_far : ℕ) (name : List ℕ) → bucket_from so_far (map to_ascii_lowercase name) ≡ bucket_from so_far name
-bucket-low so_far [] = refl
-bucket-low so_far (b ∷ name) =
-    ap (λ byte. bucket_from ((so_far * 257 + byte) % 4093) (map to_ascii_lowercase name)) (lowercase-lowercase b)
-    ∙ bucket-low ((so_far * 257 + to_ascii_lowercase b) % 4093) name
+lower-lower : (name : List ℕ) → in_lower_case (in_lower_case name) ≡ in_lower_case name
+lower-lower [] = refl
+lower-lower (b ∷ name) =
+    ap (λ byte. byte ∷ in_lower_case (in_lower_case name)) (lowercase-lowercase b)
+    ∙ ap (λ rest. to_ascii_lowercase b ∷ rest) (lower-lower name)
 
-same-bucket : (own name : List ℕ) → own ≡ name → nat_eq (bucket_of own) (bucket_of name) ≡ true
-same-bucket own name e = eq-eqb (bucket_of own) (bucket_of name) (ap bucket_of e)
+same-lowered : (own name : List ℕ) → own ≡ name → bytes_eq (in_lower_case own) (in_lower_case name) ≡ true
+same-lowered own name e =
+    (bytes_eq-Decides (in_lower_case own) (in_lower_case name)).1 (ap in_lower_case e)
 
--- a name is in the list of the name that it is in lower case
-pub lowered-bucket : (own name : List ℕ) → bytes_eq (map to_ascii_lowercase own) name ≡ true → nat_eq (bucket_of own) (bucket_of name) ≡ true
-lowered-bucket own name e =
-    eq-eqb (bucket_of own) (bucket_of name)
-    (sym (bucket-low 0 own) ∙ ap bucket_of ((bytes_eq-Decides (map to_ascii_lowercase own) name).0 e))
+-- a name that is this one in lower case
+pub lowered-same : (own name : List ℕ) → bytes_eq (in_lower_case own) name ≡ true → bytes_eq (in_lower_case own) (in_lower_case name) ≡ true
+lowered-same own name e =
+    (bytes_eq-Decides (in_lower_case own) (in_lower_case name)).1
+    (sym (lower-lower own) ∙ ap in_lower_case ((bytes_eq-Decides (in_lower_case own) name).0 e))
 
-named-bucket : (name : List ℕ) (f : dom.Frame) → dom.has_tag (is_named name) f ≡ true → is_in_bucket (bucket_of name) f ≡ true
-named-bucket name f h =
+named-lowered : (name : List ℕ) (f : dom.Frame) → dom.has_tag (is_named name) f ≡ true → is_lowered (in_lower_case name) f ≡ true
+named-lowered name f h =
     let p = and_parts (is_html f.tag) (bytes_eq name f.tag.name) h in
-    same-bucket f.tag.name name (sym ((bytes_eq-Decides name f.tag.name).0 p.1))
+    same-lowered f.tag.name name (sym ((bytes_eq-Decides name f.tag.name).0 p.1))
 
-pub none-named : (name : List ℕ) (p : FramePath) (n : ℕ) → IsTrue (none_from (is_in_bucket (bucket_of name)) p n) → IsTrue (none_from (dom.has_tag (is_named name)) p n)
+pub none-named : (name : List ℕ) (p : FramePath) (n : ℕ) → IsTrue (none_from (is_lowered (in_lower_case name)) p n) → IsTrue (none_from (dom.has_tag (is_named name)) p n)
 none-named name p n h =
-    none-weaker (is_in_bucket (bucket_of name)) (dom.has_tag (is_named name)) (named-bucket name) p n h
+    none-weaker (is_lowered (in_lower_case name)) (dom.has_tag (is_named name)) (named-lowered name) p n h
 
 -- an element whose name is one of these
 abbrev pub is_called : List (List ℕ) → dom.Frame → Bool
@@ -246,24 +289,24 @@ is_called names f = list_any (bytes_eq f.tag.name) names
 pub none-called-none : (p : FramePath) (n : ℕ) → IsTrue (none_from (is_called []) p n)
 none-called-none p n = none-nothing p n
 
-called-bucket : (name : List ℕ) (f : dom.Frame) → is_called (name ∷ []) f ≡ true → is_in_bucket (bucket_of name) f ≡ true
-called-bucket name f h = same-bucket f.tag.name name ((bytes_eq-Decides f.tag.name name).0 (alone (bytes_eq f.tag.name name) h))
+called-lowered : (name : List ℕ) (f : dom.Frame) → is_called (name ∷ []) f ≡ true → is_lowered (in_lower_case name) f ≡ true
+called-lowered name f h = same-lowered f.tag.name name ((bytes_eq-Decides f.tag.name name).0 (alone (bytes_eq f.tag.name name) h))
   where
     alone : (b : Bool) → (b || false) ≡ true → b ≡ true
     alone true h = refl
     alone false h = h
 
-called-more : (names : List (List ℕ)) (name : List ℕ) (f : dom.Frame) → is_called (names ++ name ∷ []) f ≡ true → (is_called names f || is_in_bucket (bucket_of name) f) ≡ true
+called-more : (names : List (List ℕ)) (name : List ℕ) (f : dom.Frame) → is_called (names ++ name ∷ []) f ≡ true → (is_called names f || is_lowered (in_lower_case name) f) ≡ true
 called-more names name f h =
     by-first (is_called names f) (sym (list_any-append (bytes_eq f.tag.name) names (name ∷ [])) ∙ h)
   where
-    by-first : (b : Bool) → (b || is_called (name ∷ []) f) ≡ true → (b || is_in_bucket (bucket_of name) f) ≡ true
+    by-first : (b : Bool) → (b || is_called (name ∷ []) f) ≡ true → (b || is_lowered (in_lower_case name) f) ≡ true
     by-first true e = refl
-    by-first false e = called-bucket name f e
+    by-first false e = called-lowered name f e
 
-pub none-more : (names : List (List ℕ)) (name : List ℕ) (p : FramePath) (a b n : ℕ) → a ≤ n → b ≤ n → IsTrue (none_from (is_called names) p a) → IsTrue (none_from (is_in_bucket (bucket_of name)) p b) → IsTrue (none_from (is_called (names ++ name ∷ [])) p n)
+pub none-more : (names : List (List ℕ)) (name : List ℕ) (p : FramePath) (a b n : ℕ) → a ≤ n → b ≤ n → IsTrue (none_from (is_called names) p a) → IsTrue (none_from (is_lowered (in_lower_case name)) p b) → IsTrue (none_from (is_called (names ++ name ∷ [])) p n)
 none-more names name p a b n least more h k =
-    let own = is_in_bucket (bucket_of name) in
+    let own = is_lowered (in_lower_case name) in
     none-weaker (λ f. is_called names f || own f) (is_called (names ++ name ∷ [])) (called-more names name) p n
     (none-either (is_called names) own p n (none-further (is_called names) p a n least h) (none-further own p b n more k))
 

@@ -6,9 +6,9 @@ use Rattle.std.proofs.lemmas.Grind.{get_or_default_zero}
 use Rattle.std.proofs.lemmas.List.{append-nil, append_assoc, drop_all, drop_min, get_or-set_other, get_or-set_same, length-map, length-set, map-append}
 use Rattle.std.proofs.lemmas.List.Folds.{list_all-append}
 use Rattle.std.specs.List.{list_all, list_any}
-use Rattle.tl_tree.proofs.Listed.{all-drop, all-pushed, map-take}
+use Rattle.tl_tree.proofs.Listed.{all-drop, all-pushed, all-weaker, map-take}
 use Rattle.tl_tree.specs.Inner.Roles.{is_elsewhere, is_not_of, is_numbered}
-use Rattle.tl_tree.specs.Inner.Scoped.{are_kept, elements, has_bucket, is_bucket_kept, is_limit_kept, limit_at, numbers, raised, skips}
+use Rattle.tl_tree.specs.Inner.Scoped.{are_kept, elements, has_name, is_name_kept, is_limit_kept, limit_at, numbers, raised, skips}
 use Rattle.tl_tree.specs.declared.role.Entered.{Entered}
 use Rattle.tl_tree.specs.declared.role.Kind.{Kind}
 use Rattle.tl_tree.specs.declared.role.Kind.TheVariants.{Decisive, Html, ItemBound, Scope, Special}
@@ -19,6 +19,12 @@ use Rattle.tl_tree.specs.declared.scopes.Scopes.{Scopes}
 -- a number that was read of a list
 pub read-number : (xs : List ℕ) (i x : ℕ) → i < length xs → x ≡ get_or xs i x → x ≡ get_or xs i 0
 read-number xs i x h is = is ∙ get_or_default_zero xs i x h
+
+-- and there is none
+pub read-none : (xs : List ℕ) (i : ℕ) → length xs ≤ i → get_or xs i 0 ≡ 0
+read-none [] i h = refl
+read-none (x ∷ xs) zero h = absurd (omega arith)
+read-none (x ∷ xs) (suc i) h = read-none xs i (omega arith)
 
 -- Limits
 
@@ -57,14 +63,14 @@ kind-raised Special limits xs x all = skips-raised (is_not_of Special) x.role.is
 kind-raised Decisive limits xs x all = skips-raised (is_not_of Decisive) x.role.is_decisive limits.decisive xs x refl all
 kind-raised Html limits xs x all = skips-raised (is_not_of Html) x.role.is_html limits.html xs x refl all
 
-bucket-raised : (buckets : List ℕ) (xs : List Entered) (x : Entered) (b : ℕ) → x.role.bucket < length buckets → IsTrue (skips (is_elsewhere b) (get_or buckets b 0) xs) → IsTrue (skips (is_elsewhere b) (get_or (set buckets x.role.bucket (length xs + 1)) b 0) (xs ++ x ∷ []))
-bucket-raised buckets xs x b within all =
-    elim (eqb_tells x.role.bucket b) [
-      | inl same ↦ (let end : get_or (set buckets x.role.bucket (length xs + 1)) b 0 ≡ length xs + 1 = ap (λ (n : ℕ). get_or (set buckets x.role.bucket (length xs + 1)) n 0) (sym same.1) ∙ get_or-set_same buckets x.role.bucket (length xs + 1) 0 within in
-          skips-past (is_elsewhere b) (get_or (set buckets x.role.bucket (length xs + 1)) b 0) (xs ++ x ∷ []) (omega (arith, end, length-append xs (x ∷ []))))
-      | inr other ↦ (let stays : get_or (set buckets x.role.bucket (length xs + 1)) b 0 ≡ get_or buckets b 0 = get_or-set_other buckets x.role.bucket b (length xs + 1) 0 (λ (e : b ≡ x.role.bucket). other.1 (sym e)) in
+name-raised : (names : List ℕ) (xs : List Entered) (x : Entered) (b : ℕ) → x.role.name < length names → IsTrue (skips (is_elsewhere b) (get_or names b 0) xs) → IsTrue (skips (is_elsewhere b) (get_or (set names x.role.name (length xs + 1)) b 0) (xs ++ x ∷ []))
+name-raised names xs x b within all =
+    elim (eqb_tells x.role.name b) [
+      | inl same ↦ (let end : get_or (set names x.role.name (length xs + 1)) b 0 ≡ length xs + 1 = ap (λ (n : ℕ). get_or (set names x.role.name (length xs + 1)) n 0) (sym same.1) ∙ get_or-set_same names x.role.name (length xs + 1) 0 within in
+          skips-past (is_elsewhere b) (get_or (set names x.role.name (length xs + 1)) b 0) (xs ++ x ∷ []) (omega (arith, end, length-append xs (x ∷ []))))
+      | inr other ↦ (let stays : get_or (set names x.role.name (length xs + 1)) b 0 ≡ get_or names b 0 = get_or-set_other names x.role.name b (length xs + 1) 0 (λ (e : b ≡ x.role.name). other.1 (sym e)) in
           subst (λ (n : ℕ). IsTrue (skips (is_elsewhere b) n (xs ++ x ∷ []))) (sym stays)
-          (skips-push (is_elsewhere b) (get_or buckets b 0) xs x all (ap not other.0)))
+          (skips-push (is_elsewhere b) (get_or names b 0) xs x all (ap not other.0)))
     ]
 
 -- What entries keep
@@ -171,23 +177,21 @@ none-of number (x ∷ entries) others =
 
 -- All of it
 
-pub record AreSound (entries : List Entry) (limits : Limits) (buckets at : List ℕ) : Type 0 where
-  pub parted : length buckets ≡ 4093
-  pub in_buckets : IsTrue (list_all has_bucket entries)
+pub record AreSound (entries : List Entry) (limits : Limits) (names at : List ℕ) : Type 0 where
+  pub named : IsTrue (list_all (has_name (length names)) entries)
   pub limited : (kind : Kind) → IsTrue (skips (is_not_of kind) (limit_at kind limits) (elements entries))
-  pub sought : (bucket : ℕ) → IsTrue (skips (is_elsewhere bucket) (get_or buckets bucket 0) (elements entries))
+  pub sought : (name : ℕ) → IsTrue (skips (is_elsewhere name) (get_or names name 0) (elements entries))
   pub limits_kept : (kind : Kind) → IsTrue (is_limit_kept kind entries)
-  pub buckets_kept : IsTrue (is_bucket_kept entries)
+  pub names_kept : IsTrue (is_name_kept entries)
   pub placed : ArePlaced at entries
 
-pub sound-of : (s : Scopes) → AreSound s.entries.items s.limits s.buckets.items s.places.items
+pub sound-of : (s : Scopes) → AreSound s.entries.items s.limits s.names.items s.places.items
 sound-of s = record {
-  parted = s.parted;
-  in_buckets = s.in_buckets;
+  named = s.named;
   limited = s.limited;
   sought = s.sought;
   limits_kept = s.limits_kept;
-  buckets_kept = s.buckets_kept;
+  names_kept = s.names_kept;
   placed = record { within = s.numbered; here = s.placed };
 }
 
@@ -210,80 +214,98 @@ kept_of kind entry = is_not_of kind
 abbrev pub kept_at : Kind → Entry → ℕ
 kept_at kind entry = limit_at kind entry.limits
 
-abbrev pub bucket_kept_of : Entry → Entered → Bool
-bucket_kept_of entry = is_elsewhere entry.own.role.bucket
+abbrev pub name_kept_of : Entry → Entered → Bool
+name_kept_of entry = is_elsewhere entry.own.role.name
 
-abbrev pub bucket_kept_at : Entry → ℕ
-bucket_kept_at entry = entry.bucket
+abbrev pub name_kept_at : Entry → ℕ
+name_kept_at entry = entry.name
 
 pub elements-push : (entries : List Entry) (e : Entry) → elements (entries ++ e ∷ []) ≡ elements entries ++ e.own ∷ []
 elements-push entries e = map-append (λ (entry : Entry). entry.own) entries (e ∷ [])
 
 -- the last element goes
-pub sound-left : (entries all : List Entry) (e : Entry) (limits : Limits) (buckets places : List ℕ) → all ≡ entries ++ e ∷ [] → AreSound all limits buckets places → AreSound entries e.limits (set buckets e.own.role.bucket e.bucket) places
-sound-left entries all e limits buckets places is sound =
-    let old : AreSound (entries ++ e ∷ []) limits buckets places = subst (λ (xs : List Entry). AreSound xs limits buckets places) is sound in
-    let many = old.parted in
-    let own = and_parts (list_all has_bucket entries) (has_bucket e && true) (sym (list_all-append has_bucket entries (e ∷ [])) ∙ old.in_buckets) in
-    let bucket = ltb-true e.own.role.bucket 4093 (and_parts (has_bucket e) true own.1).0 in
+pub sound-left : (entries all : List Entry) (e : Entry) (limits : Limits) (names places : List ℕ) → all ≡ entries ++ e ∷ [] → AreSound all limits names places → AreSound entries e.limits (set names e.own.role.name e.name) places
+sound-left entries all e limits names places is sound =
+    let old : AreSound (entries ++ e ∷ []) limits names places = subst (λ (xs : List Entry). AreSound xs limits names places) is sound in
+    let test = has_name (length names) in
+    let own = and_parts (list_all test entries) (test e && true) (sym (list_all-append test entries (e ∷ [])) ∙ old.named) in
+    let name = ltb-true e.own.role.name (length names) (and_parts (test e) true own.1).0 in
     record {
-      parted = length-set buckets e.own.role.bucket e.bucket ∙ many;
-      in_buckets = own.0;
+      named = subst (λ (count : ℕ). IsTrue (list_all (has_name count) entries)) (sym (length-set names e.own.role.name e.name)) own.0;
       limited = λ kind. kept-last (kept_of kind) (kept_at kind) [] entries e (old.limits_kept kind);
       sought = λ b.
-          bucket-left buckets (elements entries) e b (omega arith) (kept-last bucket_kept_of bucket_kept_at [] entries e old.buckets_kept)
-          (subst (λ (xs : List Entered). IsTrue (skips (is_elsewhere b) (get_or buckets b 0) xs)) (elements-push entries e) (old.sought b));
+          name-left names (elements entries) e b (omega arith) (kept-last name_kept_of name_kept_at [] entries e old.names_kept)
+          (subst (λ (xs : List Entered). IsTrue (skips (is_elsewhere b) (get_or names b 0) xs)) (elements-push entries e) (old.sought b));
       limits_kept = λ kind. kept-front (kept_of kind) (kept_at kind) [] entries (e ∷ []) (old.limits_kept kind);
-      buckets_kept = kept-front bucket_kept_of bucket_kept_at [] entries (e ∷ []) old.buckets_kept;
+      names_kept = kept-front name_kept_of name_kept_at [] entries (e ∷ []) old.names_kept;
       placed = placed-front places entries e old.placed;
     }
   where
-    bucket-left : (buckets : List ℕ) (xs : List Entered) (e : Entry) (b : ℕ) → e.own.role.bucket < length buckets → IsTrue (skips (is_elsewhere e.own.role.bucket) e.bucket xs) → IsTrue (skips (is_elsewhere b) (get_or buckets b 0) (xs ++ e.own ∷ [])) → IsTrue (skips (is_elsewhere b) (get_or (set buckets e.own.role.bucket e.bucket) b 0) xs)
-    bucket-left buckets xs e b within kept all =
-        elim (eqb_tells e.own.role.bucket b) [
-          | inl same ↦ subst (λ (n : ℕ). IsTrue (skips (is_elsewhere n) (get_or (set buckets e.own.role.bucket e.bucket) n 0) xs)) same.1
-              (subst (λ (n : ℕ). IsTrue (skips (is_elsewhere e.own.role.bucket) n xs)) (sym (get_or-set_same buckets e.own.role.bucket e.bucket 0 within)) kept)
-          | inr other ↦ subst (λ (n : ℕ). IsTrue (skips (is_elsewhere b) n xs)) (sym (get_or-set_other buckets e.own.role.bucket b e.bucket 0 (λ (same : b ≡ e.own.role.bucket). other.1 (sym same))))
-              (skips-front (is_elsewhere b) (get_or buckets b 0) xs (e.own ∷ []) all)
+    name-left : (names : List ℕ) (xs : List Entered) (e : Entry) (b : ℕ) → e.own.role.name < length names → IsTrue (skips (is_elsewhere e.own.role.name) e.name xs) → IsTrue (skips (is_elsewhere b) (get_or names b 0) (xs ++ e.own ∷ [])) → IsTrue (skips (is_elsewhere b) (get_or (set names e.own.role.name e.name) b 0) xs)
+    name-left names xs e b within kept all =
+        elim (eqb_tells e.own.role.name b) [
+          | inl same ↦ subst (λ (n : ℕ). IsTrue (skips (is_elsewhere n) (get_or (set names e.own.role.name e.name) n 0) xs)) same.1
+              (subst (λ (n : ℕ). IsTrue (skips (is_elsewhere e.own.role.name) n xs)) (sym (get_or-set_same names e.own.role.name e.name 0 within)) kept)
+          | inr other ↦ subst (λ (n : ℕ). IsTrue (skips (is_elsewhere b) n xs)) (sym (get_or-set_other names e.own.role.name b e.name 0 (λ (same : b ≡ e.own.role.name). other.1 (sym same))))
+              (skips-front (is_elsewhere b) (get_or names b 0) xs (e.own ∷ []) all)
         ]
 
 -- a new number gets a place
-pub sound-place : (entries : List Entry) (limits : Limits) (buckets places new : List ℕ) (number : ℕ) → length places ≤ length new → ((n : ℕ) → n < length places → n ≢ number → get_or new n 0 ≡ get_or places n 0) → list_any (is_numbered number) (elements entries) ≡ false → AreSound entries limits buckets places → AreSound entries limits buckets new
-sound-place entries limits buckets places new number longer others none old = record {
-  parted = old.parted;
-  in_buckets = old.in_buckets;
+pub sound-place : (entries : List Entry) (limits : Limits) (names places new : List ℕ) (number : ℕ) → length places ≤ length new → ((n : ℕ) → n < length places → n ≢ number → get_or new n 0 ≡ get_or places n 0) → list_any (is_numbered number) (elements entries) ≡ false → AreSound entries limits names places → AreSound entries limits names new
+sound-place entries limits names places new number longer others none old = record {
+  named = old.named;
   limited = old.limited;
   sought = old.sought;
   limits_kept = old.limits_kept;
-  buckets_kept = old.buckets_kept;
+  names_kept = old.names_kept;
   placed = placed-other places new number entries longer others none old.placed;
 }
 
+-- there are more limits, which are 0
+more-named : (count more : ℕ) → count ≤ more → (entries : List Entry) → IsTrue (list_all (has_name count) entries) → IsTrue (list_all (has_name more) entries)
+more-named count more h entries all =
+    all-weaker (has_name count) (has_name more)
+    (λ e own. lt-ltb e.own.role.name more (more-than e.own.role.name (ltb-true e.own.role.name count own)))
+    entries all
+  where
+    more-than : (n : ℕ) → n < count → n < more
+    more-than n within = omega (arith, within, h)
+
+pub sound-longer : (entries : List Entry) (limits : Limits) (names new places : List ℕ) → length names ≤ length new → ((n : ℕ) → get_or new n 0 ≡ get_or names n 0) → AreSound entries limits names places → AreSound entries limits new places
+sound-longer entries limits names new places longer same old = record {
+  named = more-named (length names) (length new) longer entries old.named;
+  limited = old.limited;
+  sought = λ name. subst (λ (n : ℕ). IsTrue (skips (is_elsewhere name) n (elements entries))) (sym (same name)) (old.sought name);
+  limits_kept = old.limits_kept;
+  names_kept = old.names_kept;
+  placed = old.placed;
+}
+
 -- an element comes, whose number has its place
-pub sound-entered : (entries all : List Entry) (e : Entry) (limits : Limits) (buckets places : List ℕ) (many : ℕ) → all ≡ entries ++ e ∷ [] → e.limits ≡ limits → e.bucket ≡ get_or buckets e.own.role.bucket 0 → e.own.role.bucket < 4093 → e.own.number < length places → get_or places e.own.number 0 ≡ many → many ≡ length entries → AreSound entries limits buckets places → AreSound all (raised limits e.own.role (many + 1)) (set buckets e.own.role.bucket (many + 1)) places
-sound-entered entries all e limits buckets places many is kept bucket within number place deep old =
-    let parted = old.parted in
+pub sound-entered : (entries all : List Entry) (e : Entry) (limits : Limits) (names places : List ℕ) (many : ℕ) → all ≡ entries ++ e ∷ [] → e.limits ≡ limits → e.name ≡ get_or names e.own.role.name 0 → e.own.role.name < length names → e.own.number < length places → get_or places e.own.number 0 ≡ many → many ≡ length entries → AreSound entries limits names places → AreSound all (raised limits e.own.role (many + 1)) (set names e.own.role.name (many + 1)) places
+sound-entered entries all e limits names places many is kept name within number place deep old =
     let xs = elements entries in
     let length-is = sym (deep ∙ sym (length-map entries (λ (entry : Entry). entry.own))) in
     let own = e.own.role in
-    subst (λ (new : List Entry). AreSound new (raised limits own (many + 1)) (set buckets own.bucket (many + 1)) places) (sym is)
+    subst (λ (new : List Entry). AreSound new (raised limits own (many + 1)) (set names own.name (many + 1)) places) (sym is)
     (record {
-      parted = length-set buckets own.bucket (many + 1) ∙ parted;
-      in_buckets = all-pushed has_bucket true entries (entries ++ e ∷ []) e refl old.in_buckets (lt-ltb own.bucket 4093 within);
+      named =
+          subst (λ (count : ℕ). IsTrue (list_all (has_name count) (entries ++ e ∷ []))) (sym (length-set names own.name (many + 1)))
+          (all-pushed (has_name (length names)) true entries (entries ++ e ∷ []) e refl old.named (lt-ltb own.name (length names) within));
       limited = λ kind.
           subst (λ (new : List Entered). IsTrue (skips (is_not_of kind) (limit_at kind (raised limits own (many + 1))) new)) (sym (elements-push entries e))
           (subst (λ (n : ℕ). IsTrue (skips (is_not_of kind) (limit_at kind (raised limits own (n + 1))) (xs ++ e.own ∷ []))) length-is
           (kind-raised kind limits xs e.own (old.limited kind)));
       sought = λ b.
-          subst (λ (new : List Entered). IsTrue (skips (is_elsewhere b) (get_or (set buckets own.bucket (many + 1)) b 0) new)) (sym (elements-push entries e))
-          (subst (λ (n : ℕ). IsTrue (skips (is_elsewhere b) (get_or (set buckets own.bucket (n + 1)) b 0) (xs ++ e.own ∷ []))) length-is
-          (bucket-raised buckets xs e.own b (omega arith) (old.sought b)));
+          subst (λ (new : List Entered). IsTrue (skips (is_elsewhere b) (get_or (set names own.name (many + 1)) b 0) new)) (sym (elements-push entries e))
+          (subst (λ (n : ℕ). IsTrue (skips (is_elsewhere b) (get_or (set names own.name (n + 1)) b 0) (xs ++ e.own ∷ []))) length-is
+          (name-raised names xs e.own b (omega arith) (old.sought b)));
       limits_kept = λ kind.
           kept-push (kept_of kind) (kept_at kind) [] entries e (old.limits_kept kind)
           (subst (λ (before : Limits). IsTrue (skips (is_not_of kind) (limit_at kind before) xs)) (sym kept) (old.limited kind));
-      buckets_kept =
-          kept-push bucket_kept_of bucket_kept_at [] entries e old.buckets_kept
-          (subst (λ (n : ℕ). IsTrue (skips (is_elsewhere own.bucket) n xs)) (sym bucket) (old.sought own.bucket));
+      names_kept =
+          kept-push name_kept_of name_kept_at [] entries e old.names_kept
+          (subst (λ (n : ℕ). IsTrue (skips (is_elsewhere own.name) n xs)) (sym name) (old.sought own.name));
       placed = placed-push places entries e number (place ∙ deep) old.placed;
     })
 

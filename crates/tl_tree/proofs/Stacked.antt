@@ -1,21 +1,25 @@
 -- What single rules ask of a path of frames, and what they change in it.
-use Rattle.std.proofs.Common.{ap, arith, subst, sym, ◌∙◌, ◌≡◌, ◌+◌, ◌≤◌, ◌<◌, ◌++◌, ◌∷◌, [], Bool, List, None, Some, codes, cond, drop, false, get_or, length, nat_eq, refl, reverse, set, slice_get, suc, take, true, zero, ℕ}
-use Rattle.std.proofs.lemmas.List.{append-nil, drop_all, drop_more, get_or_default, reverse-append}
+use Rattle.std.proofs.Common.{ap, arith, subst, sym, ◌∙◌, ◌≡◌, ◌+◌, ◌≤◌, ◌<◌, ◌++◌, ◌∷◌, [], Bool, List, None, Some, codes, cond, drop, false, get_or, length, map, nat_eq, refl, reverse, set, slice_get, suc, take, true, zero, ℕ}
+use Rattle.std.proofs.lemmas.List.{append-nil, drop_all, drop_more, get_or-map, get_or_default, reverse-append}
 use Rattle.std.proofs.lemmas.List.Elements.{filter-append}
 use Rattle.tl_dom_spec.specs.Body.{body_number, from_html}
 use Rattle.tl_dom_spec.specs.Builder.{is_only, with_more}
 use Rattle.tl_dom_spec.specs.Path as dom
 use Rattle.tl_dom_spec.specs.Tags.{Attribute, Tag, is_any}
 use Rattle.tl_tree.proofs.Changed.{reverse-last}
-use Rattle.tl_tree.proofs.Grown.{grows_refl}
+use Rattle.tl_tree.proofs.Grown.{grows_refl, tag-at-grown}
+use Rattle.tl_tree.proofs.KnownNames.{same-number}
+use Rattle.tl_tree.proofs.Listed.{begins-longer}
 use Rattle.tl_tree.proofs.Numbered.{changed-number}
 use Rattle.tl_tree.proofs.Popped.{path-top}
 use Rattle.tl_tree.proofs.Written.{frame-at, frame-written, frames-grown, frames-length, path-length}
 use Rattle.tl_tree.specs.Inner.Adopted.{frame_at}
+use Rattle.tl_tree.specs.Inner.Entered.{role_at}
 use Rattle.tl_tree.specs.Inner.Framed.{numbers}
 use Rattle.tl_tree.specs.Inner.Frames.{changed, frame_of, frames_of, path_of}
+use Rattle.tl_tree.specs.Inner.NameNumbers.{number_at}
 use Rattle.tl_tree.specs.Inner.Roles.{role_of}
-use Rattle.tl_tree.specs.Inner.Stack.{inner, opened_from, retagged, retagged_by}
+use Rattle.tl_tree.specs.Inner.Stack.{inner, opened_from, retagged, retagged_by, tag_in}
 use Rattle.tl_tree.specs.Inner.Store.{Grows, tag_at}
 use Rattle.tl_tree.specs.declared.frame.Frame.{Frame}
 use Rattle.tl_tree.specs.declared.path.FramePath.{FramePath}
@@ -51,12 +55,21 @@ tag-there p i f is h =
 
 -- A frame whose tag has more attributes, which its store got before
 
-pub merged-role : (p m : FramePath) (i : ℕ) (f : Frame) (tag : ℕ) (more : List Attribute) → Grows p.store m.store → m.frames.items ≡ p.frames.items → f ≡ get_or p.frames.items i f → i < length p.frames.items → tag_at m.store tag ≡ with_more more (tag_at p.store f.tag) → role_of (tag_at m.store tag) ≡ role_of (frame_at m i).tag
-merged-role p m i f tag more g kept is h stands =
-    let same : role_of (tag_at m.store tag) ≡ role_of (tag_at p.store f.tag) = ap role_of stands in
-    same
-    ∙ (ap role_of (sym (tag-there p i f is h))
-    ∙ ap (λ (frames : List dom.Frame). role_of (get_or frames i dom.document).tag) (sym (frames-grown p m g kept)))
+-- the tag of a frame that was read
+pub tag-read : (p : FramePath) (i : ℕ) (f : Frame) → f ≡ get_or p.frames.items i f → i < length p.frames.items → tag_in p i ≡ f.tag
+tag-read p i f is h =
+    get_or-map (λ (own : Frame). own.tag) p.frames.items i f 0 h ∙ ap (λ (own : Frame). own.tag) (sym is)
+
+pub merged-role : (p m : FramePath) (i : ℕ) (f : Frame) (tag : ℕ) (more : List Attribute) → Grows p.store m.store → m.frames.items ≡ p.frames.items → f ≡ get_or p.frames.items i f → i < length p.frames.items → f.tag < length p.store.tags.items → tag < length m.store.tags.items → tag_at m.store tag ≡ with_more more (tag_at p.store f.tag) → role_at m.store tag ≡ role_at m.store (tag_in m i)
+merged-role p m i f tag more g kept is h own within stands =
+    let longer = begins-longer p.store.tags.items m.store.tags.items g.tags in
+    let like : tag_at m.store tag ≡ with_more more (tag_at m.store f.tag) =
+    stands ∙ ap (with_more more) (sym (tag-at-grown p.store m.store g f.tag own)) in
+    let there : tag_in m i ≡ f.tag =
+    ap (λ (frames : List Frame). get_or (map (λ (own : Frame). own.tag) frames) i 0) kept ∙ tag-read p i f is h in
+    ap (λ (t : Tag). role_of t (number_at m.store tag)) like
+    ∙ (ap (role_of (tag_at m.store f.tag)) (same-number m.store tag f.tag within (omega arith) (ap (λ (t : Tag). t.name) like))
+    ∙ ap (role_at m.store) (sym there))
 
 pub merged-path : (p m q : FramePath) (k n : ℕ) (f : Frame) (tag : ℕ) (more : List Attribute) → Grows p.store m.store → m.frames.items ≡ p.frames.items → slice_get (numbers p.frames.items) n ≡ Some k → f ≡ get_or p.frames.items n f → n < length p.frames.items → tag_at m.store tag ≡ with_more more (tag_at p.store f.tag) → frames_of q ≡ changed n (retagged (tag_at m.store tag)) (frames_of m) → path_of q ≡ dom.at_number k (retagged_by (with_more more)) (path_of p)
 merged-path p m q k n f tag more g kept found is h stands written =

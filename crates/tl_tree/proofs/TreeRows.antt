@@ -7,6 +7,7 @@ use Rattle.std.specs.Option.{option_map}
 use Rattle.tl_dom_spec.specs.HtmlForest.{before, no_trees}
 use Rattle.tl_dom_spec.specs.Tags as dom
 use Rattle.tl_html_spec.specs.Doctypes as doctypes
+use Rattle.tl_dom_spec.specs.Marks.{marked}
 use Rattle.tl_tree.proofs.Grown.{doctype-at-grown, tag-at-grown}
 use Rattle.tl_tree.proofs.Listed.{all-weaker, map-same}
 use Rattle.tl_tree.proofs.RowLaws.{ComesBefore, Within, rows-within}
@@ -94,10 +95,10 @@ tree-held : (s t u : Store) (copied : List ℕ) → Grows s t → t.side.items �
 tree-held s t u copied g side a (Element tag) h =
     ap rows.an_element (tag-alike t u a tag ∙ tag-at-grown s t g tag (ltb-true tag (length s.tags.items) h))
 tree-held s t u copied g side a Contents h = refl
-tree-held s t u copied g side a (Text span) h = ap (λ v. rows.a_text (bytes_in v span)) (tree-text s t u copied g side a)
-tree-held s t u copied g side a (Comment span) h = ap (λ v. rows.a_comment (bytes_in v span)) (tree-text s t u copied g side a)
-tree-held s t u copied g side a (Doctype n) h =
-    ap rows.a_doctype (doctype-alike t u a n ∙ doctype-at-grown s t g n (ltb-true n (length s.doctypes.items) h))
+tree-held s t u copied g side a (Text own) h = ap (λ v. rows.a_text (marked own.source (bytes_in v own.span))) (tree-text s t u copied g side a)
+tree-held s t u copied g side a (Comment own) h = ap (λ v. rows.a_comment (marked own.source (bytes_in v own.span))) (tree-text s t u copied g side a)
+tree-held s t u copied g side a (Doctype n source) h =
+    ap (λ v. rows.a_doctype (marked source v)) (doctype-alike t u a n ∙ doctype-at-grown s t g n (ltb-true n (length s.doctypes.items) h))
 
 row-with : (node other : rows.Node) (row : Row) → node ≡ other → (let r : rows.Row = record { node = node; parent = parent_of row.parent; end = row.end } in r) ≡ (let r : rows.Row = record { node = other; parent = parent_of row.parent; end = row.end } in r)
 row-with node other row e = ap (λ v. let r : rows.Row = record { node = v; parent = parent_of row.parent; end = row.end } in r) e
@@ -117,11 +118,11 @@ longer front all e = let many = ap length e ∙ length-append front (drop (lengt
 held-within : (z w : Sizes) → w.page ≡ z.page → w.side ≡ z.side → z.tags ≤ w.tags → z.doctypes ≤ w.doctypes → (held : Held) → IsTrue (held_is_within z held) → IsTrue (held_is_within w held)
 held-within z w page side tags entries (Element tag) h = lt-more tag z.tags w.tags h tags
 held-within z w page side tags entries Contents h = h
-held-within z w page side tags entries (Text span) h =
-    subst (λ v. IsTrue (span_is_within v w.side span)) (sym page) (subst (λ v. IsTrue (span_is_within z.page v span)) (sym side) h)
-held-within z w page side tags entries (Comment span) h =
-    subst (λ v. IsTrue (span_is_within v w.side span)) (sym page) (subst (λ v. IsTrue (span_is_within z.page v span)) (sym side) h)
-held-within z w page side tags entries (Doctype n) h = lt-more n z.doctypes w.doctypes h entries
+held-within z w page side tags entries (Text own) h =
+    subst (λ v. IsTrue (span_is_within v w.side own.span)) (sym page) (subst (λ v. IsTrue (span_is_within z.page v own.span)) (sym side) h)
+held-within z w page side tags entries (Comment own) h =
+    subst (λ v. IsTrue (span_is_within v w.side own.span)) (sym page) (subst (λ v. IsTrue (span_is_within z.page v own.span)) (sym side) h)
+held-within z w page side tags entries (Doctype n source) h = lt-more n z.doctypes w.doctypes h entries
 
 pub tree-within : (s t : Store) (n : ℕ) (made : Settled) → AreRowsOf s n made → Grows s t → t.side.items ≡ s.side.items ++ made.copied.items → IsTrue (list_all (row_is_within (sizes_of t)) made.rows.items)
 tree-within s t n made are g side =

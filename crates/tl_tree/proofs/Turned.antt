@@ -12,11 +12,10 @@ use Rattle.tl_tree.proofs.Furthest.{frame-there}
 use Rattle.tl_tree.proofs.Listed.{all-drop, all-take, map-take}
 use Rattle.tl_tree.proofs.Numbers.{all-append, fresh}
 use Rattle.tl_tree.specs.Inner.Adopted.{emptied, filled, frame_at, moved, renewed, renewed_near, settled_in}
-use Rattle.tl_tree.specs.Inner.Entered.{entered, entered_of, turned, turned_after}
+use Rattle.tl_tree.specs.Inner.Entered.{entered, entered_of, role_at, turned, turned_after}
 use Rattle.tl_tree.specs.Inner.Framed.{are_distinct, is_before, is_numbered}
 use Rattle.tl_tree.specs.Inner.Frames.{changed, frame_of, frames_of}
 use Rattle.tl_tree.specs.Inner.Roles as roles
-use Rattle.tl_tree.specs.Inner.Roles.{role_of}
 use Rattle.tl_tree.specs.Inner.Store.{tag_at}
 use Rattle.tl_tree.specs.declared.frame.Frame.{Frame}
 use Rattle.tl_tree.specs.declared.path.FramePath.{FramePath}
@@ -127,7 +126,7 @@ turned-two n inside new all h is =
     ∙ sym (ap (turned_after (take n all) new) (drop-cons all (suc n) inside h))
 
 -- what is known is so of the frames that were written
-pub known-two : (p : FramePath) (n : ℕ) (x y b : Frame) (role : Role) (new : List Entered) → suc n < length p.frames.items → b ≡ get_or p.frames.items (suc n) b → x.number ≡ b.number → x.tag ≡ b.tag → role ≡ role_of (tag_at p.store y.tag) → new ≡ take (length new) (turned n (record { number = y.number; role = role }) (entered p.scopes)) → Opens new (map (entered_of p.store) (with_two n x y p.frames.items))
+pub known-two : (p : FramePath) (n : ℕ) (x y b : Frame) (role : Role) (new : List Entered) → suc n < length p.frames.items → b ≡ get_or p.frames.items (suc n) b → x.number ≡ b.number → x.tag ≡ b.tag → role ≡ role_at p.store y.tag → new ≡ take (length new) (turned n (record { number = y.number; role = role }) (entered p.scopes)) → Opens new (map (entered_of p.store) (with_two n x y p.frames.items))
 known-two p n x y b role new h is number tag is-role cut =
     let s = p.store in
     let all = map (entered_of s) p.frames.items in
@@ -137,8 +136,8 @@ known-two p n x y b role new h is number tag is-role cut =
     ap (entered_of s) is ∙ sym (get_or-map (entered_of s) p.frames.items (suc n) b) in
     let at : turned n own all ≡ map (entered_of s) (with_two n x y p.frames.items) =
     sym (turned-two n (entered_of s b) own all (omega arith) inside)
-    ∙ (ap (λ (e : Entered). with_two n e own all) (same-entered b.number x.number (role_of (tag_at s b.tag)) (role_of (tag_at s x.tag)) (sym number) (ap (λ k. role_of (tag_at s k)) (sym tag)))
-    ∙ (ap (λ (e : Entered). with_two n (entered_of s x) e all) (same-entered y.number y.number role (role_of (tag_at s y.tag)) refl is-role)
+    ∙ (ap (λ (e : Entered). with_two n e own all) (same-entered b.number x.number (role_at s b.tag) (role_at s x.tag) (sym number) (ap (λ k. role_at s k) (sym tag)))
+    ∙ (ap (λ (e : Entered). with_two n (entered_of s x) e all) (same-entered y.number y.number role (role_at s y.tag) refl is-role)
     ∙ sym (map-two (entered_of s) n x y p.frames.items))) in
     subst (λ (ys : List Entered). Opens new ys) at
     (opens-trans new (turned n own (entered p.scopes)) (turned n own all) cut (opens-turned n own (entered p.scopes) all p.known))

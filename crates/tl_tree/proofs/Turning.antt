@@ -7,10 +7,10 @@ use Rattle.std.proofs.lemmas.List.{append-nil, append_assoc, get_or-set_other, g
 use Rattle.std.proofs.lemmas.List.Folds.{list_all-append}
 use Rattle.std.specs.List.{list_all, list_any}
 use Rattle.tl_tree.proofs.Listed.{all-drop}
-use Rattle.tl_tree.proofs.Skips.{AreSound, ArePlaced, apart, bucket_kept_at, bucket_kept_of, kept-front, kept_at, kept_of, kind-raised, skips-front, skips-past}
+use Rattle.tl_tree.proofs.Skips.{AreSound, ArePlaced, apart, name_kept_at, name_kept_of, kept-front, kept_at, kept_of, kind-raised, skips-front, skips-past}
 use Rattle.tl_tree.specs.Inner.Entered.{turned, turned_after}
 use Rattle.tl_tree.specs.Inner.Roles.{is_elsewhere, is_not_of, is_numbered, is_within}
-use Rattle.tl_tree.specs.Inner.Scoped.{are_kept, elements, has_bucket, limit_at, numbers, raised, skips}
+use Rattle.tl_tree.specs.Inner.Scoped.{are_kept, elements, has_name, limit_at, numbers, raised, skips}
 use Rattle.tl_tree.specs.declared.role.Entered.{Entered}
 use Rattle.tl_tree.specs.declared.role.Kind.{Kind}
 use Rattle.tl_tree.specs.declared.role.Kind.TheVariants.{Decisive, Html, ItemBound, Scope, Special}
@@ -56,7 +56,7 @@ inner-of : (outer inner : List Entered) (one other : Entered) → drop (suc (suc
 inner-of [] inner one other = refl
 inner-of (x ∷ outer) inner one other = inner-of outer inner one other
 
--- from there on none is in the bucket of the new one
+-- from there on none is in the name of the new one
 skips-inner : (test : Entered → Bool) (n : ℕ) (outer inner : List Entered) (gone inside : Entered) → n ≤ suc (suc (length outer)) → IsTrue (skips test n (outer ++ gone ∷ inside ∷ inner)) → IsTrue (list_all test inner)
 skips-inner test n outer inner gone inside h all =
     subst (λ (xs : List Entered). IsTrue (list_all test xs)) (inner-of outer inner gone inside)
@@ -192,11 +192,11 @@ module _ (places : List ℕ) (outer inner : List Entry) (gone inside a b : Entry
 
 -- what comes to stand in place of the two: the inner one of them, and the new one
 abbrev pub moved : Entry → Entry → Entry
-moved gone inside = record { own = inside.own; limits = gone.limits; bucket = inside.bucket }
+moved gone inside = record { own = inside.own; limits = gone.limits; name = inside.name }
 
 abbrev pub added : Entry → Entry → Entered → ℕ → Entry
 added gone inside new place =
-    record { own = new; limits = raised gone.limits inside.own.role (place + 1); bucket = place + 1 }
+    record { own = new; limits = raised gone.limits inside.own.role (place + 1); name = place + 1 }
 
 elements-two : (outer inner : List Entry) (a b : Entry) → elements (outer ++ a ∷ b ∷ inner) ≡ elements outer ++ a.own ∷ b.own ∷ elements inner
 elements-two outer inner a b = map-append (λ (entry : Entry). entry.own) outer (a ∷ b ∷ inner)
@@ -205,65 +205,65 @@ all-true : (xs : List Entered) → IsTrue (list_all (λ (x : Entered). true) xs)
 all-true [] = refl
 all-true (x ∷ xs) = all-true xs
 
-elsewhere-swap : (x new : Entered) → IsTrue (is_elsewhere new.role.bucket x) → IsTrue (is_elsewhere x.role.bucket new)
+elsewhere-swap : (x new : Entered) → IsTrue (is_elsewhere new.role.name x) → IsTrue (is_elsewhere x.role.name new)
 elsewhere-swap x new other =
-    elim (eqb_tells new.role.bucket x.role.bucket) [
-      | inl same ↦ subst (λ (n : ℕ). IsTrue (not (new.role.bucket == n))) same.1 (subst (λ (n : ℕ). IsTrue (not (n == new.role.bucket))) (sym same.1) other)
+    elim (eqb_tells new.role.name x.role.name) [
+      | inl same ↦ subst (λ (n : ℕ). IsTrue (not (new.role.name == n))) same.1 (subst (λ (n : ℕ). IsTrue (not (n == new.role.name))) (sym same.1) other)
       | inr apart ↦ ap not apart.0
     ]
 
 -- the element at a place leaves
-pub sound-turned : (outer inner : List Entry) (gone inside : Entry) (new : Entered) (limits : Limits) (buckets places : List ℕ) (place : ℕ) → place ≡ length outer → ((kind : Kind) → IsTrue (is_not_of kind inside.own) → IsTrue (is_not_of kind new)) → get_or buckets new.role.bucket 0 ≤ place + 2 → new.role.bucket < 4093 → new.number < length places → get_or places new.number 0 ≡ place + 1 → list_any (is_numbered new.number) (elements (outer ++ gone ∷ inside ∷ inner)) ≡ false → AreSound (outer ++ gone ∷ inside ∷ inner) limits buckets places → AreSound (outer ++ moved gone inside ∷ added gone inside new place ∷ inner) limits (set buckets new.role.bucket (place + 2)) (set places inside.own.number place)
-sound-turned outer inner gone inside new limits buckets places place deep fewer near bucket within at none old =
+pub sound-turned : (outer inner : List Entry) (gone inside : Entry) (new : Entered) (limits : Limits) (names places : List ℕ) (place : ℕ) → place ≡ length outer → ((kind : Kind) → IsTrue (is_not_of kind inside.own) → IsTrue (is_not_of kind new)) → get_or names new.role.name 0 ≤ place + 2 → new.role.name < length names → new.number < length places → get_or places new.number 0 ≡ place + 1 → list_any (is_numbered new.number) (elements (outer ++ gone ∷ inside ∷ inner)) ≡ false → AreSound (outer ++ gone ∷ inside ∷ inner) limits names places → AreSound (outer ++ moved gone inside ∷ added gone inside new place ∷ inner) limits (set names new.role.name (place + 2)) (set places inside.own.number place)
+sound-turned outer inner gone inside new limits names places place deep fewer near name within at none old =
     let a = moved gone inside in
     let b = added gone inside new place in
     let xs = elements outer in
     let ys = elements inner in
-    let parted = old.parted in
     let deep-own : length xs ≡ place = length-map outer (λ (entry : Entry). entry.own) ∙ sym deep in
     let was = λ (test : Entered → Bool) (n : ℕ) (all : IsTrue (skips test n (elements (outer ++ gone ∷ inside ∷ inner)))). subst (λ (es : List Entered). IsTrue (skips test n es)) (elements-two outer inner gone inside) all in
     let is = λ (test : Entered → Bool) (n : ℕ) (all : IsTrue (skips test n (xs ++ inside.own ∷ new ∷ ys))). subst (λ (es : List Entered). IsTrue (skips test n es)) (sym (elements-two outer inner a b)) all in
-    let none-inner : IsTrue (list_all (is_elsewhere new.role.bucket) ys) =
-    skips-inner (is_elsewhere new.role.bucket) (get_or buckets new.role.bucket 0) xs ys gone.own inside.own (omega arith)
-    (was (is_elsewhere new.role.bucket) (get_or buckets new.role.bucket 0) (old.sought new.role.bucket)) in
-    let split = and_parts (list_all has_bucket outer) (has_bucket gone && (has_bucket inside && list_all has_bucket inner)) (sym (list_all-append has_bucket outer (gone ∷ inside ∷ inner)) ∙ old.in_buckets) in
-    let split-behind = and_parts (has_bucket inside) (list_all has_bucket inner) (and_parts (has_bucket gone) (has_bucket inside && list_all has_bucket inner) split.1).1 in
+    let none-inner : IsTrue (list_all (is_elsewhere new.role.name) ys) =
+    skips-inner (is_elsewhere new.role.name) (get_or names new.role.name 0) xs ys gone.own inside.own (omega arith)
+    (was (is_elsewhere new.role.name) (get_or names new.role.name 0) (old.sought new.role.name)) in
+    let test = has_name (length names) in
+    let split = and_parts (list_all test outer) (test gone && (test inside && list_all test inner)) (sym (list_all-append test outer (gone ∷ inside ∷ inner)) ∙ old.named) in
+    let split-behind = and_parts (test inside) (list_all test inner) (and_parts (test gone) (test inside && list_all test inner) split.1).1 in
     let placed : ArePlaced (set places inside.own.number (length outer)) (outer ++ a ∷ b ∷ inner) =
     placed-turned places outer inner gone inside a b refl
     (λ (same : new.number ≡ inside.own.number).
     apart new.number (outer ++ gone ∷ inside ∷ inner) none (suc (length outer)) (omega (arith, length-append outer (gone ∷ inside ∷ inner))) (number-second outer inner gone inside ∙ sym same))
     within (omega arith) old.placed in
     record {
-      parted = length-set buckets new.role.bucket (place + 2) ∙ parted;
-      in_buckets =
-          list_all-append has_bucket outer (a ∷ b ∷ inner)
-          ∙ and_from (list_all has_bucket outer) (has_bucket a && (has_bucket b && list_all has_bucket inner)) split.0
-          (and_from (has_bucket inside) (has_bucket b && list_all has_bucket inner) split-behind.0
-          (and_from (has_bucket b) (list_all has_bucket inner) (lt-ltb new.role.bucket 4093 bucket) split-behind.1));
+      named =
+          subst (λ (count : ℕ). IsTrue (list_all (has_name count) (outer ++ a ∷ b ∷ inner))) (sym (length-set names new.role.name (place + 2)))
+          (list_all-append test outer (a ∷ b ∷ inner)
+          ∙ and_from (list_all test outer) (test a && (test b && list_all test inner)) split.0
+          (and_from (test inside) (test b && list_all test inner) split-behind.0
+          (and_from (test b) (list_all test inner) (lt-ltb new.role.name (length names) name) split-behind.1)));
       limited = λ kind.
           is (is_not_of kind) (limit_at kind limits)
           (skips-turned (is_not_of kind) (limit_at kind limits) xs ys gone.own inside.own new (fewer kind) (was (is_not_of kind) (limit_at kind limits) (old.limited kind)));
       sought = λ n.
-          elim (eqb_tells new.role.bucket n) [
-            | inl same ↦ subst (λ (m : ℕ). IsTrue (skips (is_elsewhere m) (get_or (set buckets new.role.bucket (place + 2)) m 0) (elements (outer ++ a ∷ b ∷ inner)))) same.1
-                (subst (λ (m : ℕ). IsTrue (skips (is_elsewhere new.role.bucket) m (elements (outer ++ a ∷ b ∷ inner)))) (sym (get_or-set_same buckets new.role.bucket (place + 2) 0 (omega arith)))
-                (is (is_elsewhere new.role.bucket) (place + 2)
-                (skips-at (is_elsewhere new.role.bucket) (place + 2) xs ys inside.own new (omega arith) none-inner)))
-            | inr other ↦ subst (λ (m : ℕ). IsTrue (skips (is_elsewhere n) m (elements (outer ++ a ∷ b ∷ inner)))) (sym (get_or-set_other buckets new.role.bucket n (place + 2) 0 (λ (same : n ≡ new.role.bucket). other.1 (sym same))))
-                (is (is_elsewhere n) (get_or buckets n 0)
-                (skips-turned (is_elsewhere n) (get_or buckets n 0) xs ys gone.own inside.own new (λ (_ : IsTrue (is_elsewhere n inside.own)). ap not other.0) (was (is_elsewhere n) (get_or buckets n 0) (old.sought n))))
+          elim (eqb_tells new.role.name n) [
+            | inl same ↦ subst (λ (m : ℕ). IsTrue (skips (is_elsewhere m) (get_or (set names new.role.name (place + 2)) m 0) (elements (outer ++ a ∷ b ∷ inner)))) same.1
+                (subst (λ (m : ℕ). IsTrue (skips (is_elsewhere new.role.name) m (elements (outer ++ a ∷ b ∷ inner)))) (sym (get_or-set_same names new.role.name (place + 2) 0 (omega arith)))
+                (is (is_elsewhere new.role.name) (place + 2)
+                (skips-at (is_elsewhere new.role.name) (place + 2) xs ys inside.own new (omega arith) none-inner)))
+            | inr other ↦ subst (λ (m : ℕ). IsTrue (skips (is_elsewhere n) m (elements (outer ++ a ∷ b ∷ inner)))) (sym (get_or-set_other names new.role.name n (place + 2) 0 (λ (same : n ≡ new.role.name). other.1 (sym same))))
+                (is (is_elsewhere n) (get_or names n 0)
+                (skips-turned (is_elsewhere n) (get_or names n 0) xs ys gone.own inside.own new (λ (_ : IsTrue (is_elsewhere n inside.own)). ap not other.0) (was (is_elsewhere n) (get_or names n 0) (old.sought n))))
           ];
       limits_kept = λ kind.
           kept-turned (kept_of kind) (kept_at kind) (λ (x : Entered). true) outer inner gone inside a b refl (λ (e : Entry) (_ : IsTrue true). fewer kind) (all-true ys) (old.limits_kept kind)
           (λ (first : IsTrue (skips (is_not_of kind) (limit_at kind gone.limits) xs)) (_ : IsTrue (skips (is_not_of kind) (limit_at kind inside.limits) (xs ++ gone.own ∷ []))).
           (first, subst (λ (n : ℕ). IsTrue (skips (is_not_of kind) (limit_at kind (raised gone.limits inside.own.role (n + 1))) (xs ++ inside.own ∷ []))) deep-own (kind-raised kind gone.limits xs inside.own first)));
-      buckets_kept =
-          kept-turned bucket_kept_of bucket_kept_at (is_elsewhere new.role.bucket) outer inner gone inside a b refl
-          (λ (e : Entry) (other : IsTrue (is_elsewhere new.role.bucket e.own)) (_ : IsTrue (is_elsewhere e.own.role.bucket inside.own)). elsewhere-swap e.own new other)
-          none-inner old.buckets_kept
-          (λ (_ : IsTrue (skips (is_elsewhere gone.own.role.bucket) gone.bucket xs)) (second : IsTrue (skips (is_elsewhere inside.own.role.bucket) inside.bucket (xs ++ gone.own ∷ []))). (
-            skips-front (is_elsewhere inside.own.role.bucket) inside.bucket xs (gone.own ∷ []) second,
-            skips-past (is_elsewhere new.role.bucket) (place + 1) (xs ++ inside.own ∷ []) (omega (arith, length-append xs (inside.own ∷ []))),
+      names_kept =
+          kept-turned name_kept_of name_kept_at (is_elsewhere new.role.name) outer inner gone inside a b refl
+          (λ (e : Entry) (other : IsTrue (is_elsewhere new.role.name e.own)) (_ : IsTrue (is_elsewhere e.own.role.name inside.own)). elsewhere-swap e.own new other)
+          none-inner old.names_kept
+          (λ (_ : IsTrue (skips (is_elsewhere gone.own.role.name) gone.name xs)) (second : IsTrue (skips (is_elsewhere inside.own.role.name) inside.name (xs ++ gone.own ∷ []))). (
+            skips-front (is_elsewhere inside.own.role.name) inside.name xs (gone.own ∷ []) second,
+            skips-past (is_elsewhere new.role.name) (place + 1) (xs ++ inside.own ∷ []) (omega (arith, length-append xs (inside.own ∷ []))),
           ));
       placed = subst (λ (n : ℕ). ArePlaced (set places inside.own.number n) (outer ++ a ∷ b ∷ inner)) (sym deep) placed;
     }
@@ -343,13 +343,13 @@ module _ (entries : List Entry) (place : ℕ) (gone inside : Entry) (new : Enter
   front-length : place ≡ length (take place entries)
   front-length = sym (length-take-le place entries (omega arith))
 
-  pub turned-sound : (limits : Limits) (buckets places : List ℕ) → IsTrue (is_within new.role inside.own.role) → get_or buckets new.role.bucket 0 ≤ place + 2 → new.role.bucket < 4093 → new.number < length places → get_or places new.number 0 ≡ place + 1 → list_any (is_numbered new.number) (elements entries) ≡ false → AreSound entries limits buckets places → AreSound (turned-entries entries place (moved gone inside) (added gone inside new place)) limits (set buckets new.role.bucket (place + 2)) (set places inside.own.number place)
-  turned-sound limits buckets places fewer near bucket within at none old =
-      subst (λ (es : List Entry). AreSound es limits (set buckets new.role.bucket (place + 2)) (set places inside.own.number place)) (sym is-two)
-      (sound-turned (take place entries) (drop (suc (suc place)) entries) gone inside new limits buckets places place front-length
-      (λ (kind : Kind). within-kind kind new inside.own fewer) near bucket within at
+  pub turned-sound : (limits : Limits) (names places : List ℕ) → IsTrue (is_within new.role inside.own.role) → get_or names new.role.name 0 ≤ place + 2 → new.role.name < length names → new.number < length places → get_or places new.number 0 ≡ place + 1 → list_any (is_numbered new.number) (elements entries) ≡ false → AreSound entries limits names places → AreSound (turned-entries entries place (moved gone inside) (added gone inside new place)) limits (set names new.role.name (place + 2)) (set places inside.own.number place)
+  turned-sound limits names places fewer near name within at none old =
+      subst (λ (es : List Entry). AreSound es limits (set names new.role.name (place + 2)) (set places inside.own.number place)) (sym is-two)
+      (sound-turned (take place entries) (drop (suc (suc place)) entries) gone inside new limits names places place front-length
+      (λ (kind : Kind). within-kind kind new inside.own fewer) near name within at
       (subst (λ (es : List Entry). list_any (is_numbered new.number) (elements es) ≡ false) was-two none)
-      (subst (λ (es : List Entry). AreSound es limits buckets places) was-two old))
+      (subst (λ (es : List Entry). AreSound es limits names places) was-two old))
 
   pub turned-all : (left : List Entered) → left ≡ elements (turned-entries entries place (moved gone inside) (added gone inside new place)) → left ≡ take (length left) (turned place new (elements entries))
   turned-all left is =

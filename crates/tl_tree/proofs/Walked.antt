@@ -55,7 +55,7 @@ up-parent t n p e =
           omega (arith, parent, order))
     ]
 
-down-end : (t : Tree) → IsDown (rows_in t)
+pub down-end : (t : Tree) → IsDown (rows_in t)
 down-end t n e is =
     elim (option-cases (slice_get t.rows.items n)) as (λ _. n < e) [
       | inl none ↦ absurd (none-some e (sym (ap (option_map (λ (row : Row). row.end)) (got-row t n None none)) ∙ is))
@@ -106,11 +106,11 @@ pub siblings-more : (rows : List Row) (f number end : ℕ) → nat_lt number end
 siblings-more rows f number end e =
     subst (λ b. (elim b as (λ _. List ℕ) [ true ↦ number ∷ siblings_from rows f (end_or rows number end) end | false ↦ [] ]) ≡ number ∷ siblings_from rows f (end_or rows number end) end) (sym e) refl
 
-or-less : (o : Option ℕ) (number end : ℕ) → ((e : ℕ) → o ≡ Some e → number < e) → number < end → number < unwrap_or o end
+pub or-less : (o : Option ℕ) (number end : ℕ) → ((e : ℕ) → o ≡ Some e → number < e) → number < end → number < unwrap_or o end
 or-less None number end f l = l
 or-less (Some e) number end f l = f e refl
 
-not-past : (number end : ℕ) → end ≤ number → nat_lt number end ≡ false
+pub not-past : (number end : ℕ) → end ≤ number → nat_lt number end ≡ false
 not-past number end l =
     elim (bool-cases (nat_lt number end)) as (λ _. nat_lt number end ≡ false) [
       | inl e ↦ absurd (let less = ltb-true number end e in let f : ⊥ = omega (arith, less, l) in f)

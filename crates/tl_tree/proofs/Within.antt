@@ -80,9 +80,9 @@ span-of z w more s h =
     subst (λ (page : ℕ). IsTrue (span_is_within page w.side s)) (sym more.page) (span-more z.page z.side w.side s more.side h)
 
 pub node-more : (z w : Sizes) → IsMore z w → (rows others : ℕ) → rows ≤ others → (node : Node) → IsTrue (node_is_within z rows node) → IsTrue (node_is_within w others node)
-node-more z w more rows others le (Text s) h = span-of z w more s h
-node-more z w more rows others le (Comment s) h = span-of z w more s h
-node-more z w more rows others le (Doctype n) h = lt-more n z.doctypes w.doctypes h more.doctypes
+node-more z w more rows others le (Text own) h = span-of z w more own.span h
+node-more z w more rows others le (Comment own) h = span-of z w more own.span h
+node-more z w more rows others le (Doctype n source) h = lt-more n z.doctypes w.doctypes h more.doctypes
 node-more z w more rows others le (Element tag below) h =
     let p = and_parts (nat_lt tag z.tags) (nat_le below rows) h in
     and_from (nat_lt tag w.tags) (nat_le below others)

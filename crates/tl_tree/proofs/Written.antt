@@ -229,7 +229,7 @@ caught-up-none p i f is h e =
     (nothing-waits (frame_of p.store f) (ap (nodes_of p.store) e ∙ nodes-none p.store)))
 
 -- The document alone
-pub path-new : (p : FramePath) (s : Store) (tag : ℕ) (none : List Frame) → none ≡ [] → p.frames.items ≡ none ++ record { number = 0; tag = tag; children = 0; late = 0; waiting = 0; place = Here; is_open = false } ∷ [] → tag_at p.store tag ≡ tag_of s (record { space = Html; name = record { start = 0; len = 0 }; known = OTHER; list = Tags; first_attribute = 0; attribute_count = 0; start = 0 }) → path_of p ≡ dom.document ∷ []
+pub path-new : (p : FramePath) (s : Store) (tag : ℕ) (none : List Frame) → none ≡ [] → p.frames.items ≡ none ++ record { number = 0; tag = tag; children = 0; late = 0; waiting = 0; place = Here; is_open = false } ∷ [] → tag_at p.store tag ≡ tag_of s (record { space = Html; name = record { start = 0; len = 0 }; known = OTHER; number = 0; list = Tags; first_attribute = 0; attribute_count = 0; start = 0 }) → path_of p ≡ dom.document ∷ []
 unfolding frames_of tag_of bytes_of
 path-new p s tag none is e t =
     ap (λ frames. reverse (map (frame_of p.store) frames)) (e ∙ ap (λ (frames : List Frame). frames ++ record { number = 0; tag = tag; children = 0; late = 0; waiting = 0; place = Here; is_open = false } ∷ []) is)

@@ -38,13 +38,13 @@ name_of _ = None
 
 -- what a text or a comment says
 abbrev pub text_of : Node → Option (List ℕ)
-text_of (a_text bytes) = Some bytes
-text_of (a_comment bytes) = Some bytes
+text_of (a_text own) = Some own.said
+text_of (a_comment own) = Some own.said
 text_of _ = None
 
 -- what a doctype says
 abbrev pub doctype_of : Node → Option doctypes.Doctype
-doctype_of (a_doctype own) = Some own
+doctype_of (a_doctype own) = Some own.said
 doctype_of _ = None
 
 -- a doctype that is answered

@@ -15,6 +15,9 @@ pub mod Adopted
 pub mod Found
 pub mod Stack
 pub mod Entered
+pub mod MetNames
+pub mod Placing
+pub mod NameNumbers
 pub mod Roles
 pub mod Scoped
 pub mod Said
@@ -41,3 +44,4 @@ pub mod Rounds
 pub mod Merging
 pub mod AtRest
 pub mod Errors
+pub mod Parted

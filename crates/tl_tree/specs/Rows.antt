@@ -2,6 +2,7 @@
 -- and where the rows below it end, so that what is below a row is a range of numbers.
 use Rattle.std.specs.Prelude.{Bool, List, None, Option, Some, [], false, slice_get, true, ℕ, ◌+◌, ◌++◌, ◌<◌, ◌≡◌, ◌∷◌}
 use Rattle.tl_dom_spec.specs.HtmlForest.{HtmlForest, comment, doctype, element, has_contents, no_trees, text}
+use Rattle.tl_dom_spec.specs.Marks.{Marked}
 use Rattle.tl_dom_spec.specs.Tags.{Tag}
 use Rattle.tl_html_spec.specs.Doctypes.{Doctype}
 
@@ -11,9 +12,9 @@ pub data Node : Type 0 where
   an_element : Tag → Node
   -- the contents of a `template`, in which the trees below the template stand
   contents : Node
-  a_text : List ℕ → Node
-  a_comment : List ℕ → Node
-  a_doctype : Doctype → Node
+  a_text : Marked (List ℕ) → Node
+  a_comment : Marked (List ℕ) → Node
+  a_doctype : Marked Doctype → Node
 
 pub record Row : Type 0 where
   pub node : Node
@@ -48,10 +49,10 @@ lone_row number parent node = record { node = node; parent = parent; end = numbe
 -- the rows of trees in a parent, the first of which has a number
 abbrev pub rows_from : ℕ → Option ℕ → HtmlForest → List Row
 rows_from number parent no_trees = []
-rows_from number parent (text bytes more) =
-    lone_row number parent (a_text bytes) ∷ rows_from (number + 1) parent more
-rows_from number parent (comment bytes more) =
-    lone_row number parent (a_comment bytes) ∷ rows_from (number + 1) parent more
+rows_from number parent (text own more) =
+    lone_row number parent (a_text own) ∷ rows_from (number + 1) parent more
+rows_from number parent (comment own more) =
+    lone_row number parent (a_comment own) ∷ rows_from (number + 1) parent more
 rows_from number parent (doctype own more) =
     lone_row number parent (a_doctype own) ∷ rows_from (number + 1) parent more
 rows_from number parent (element tag below more) =

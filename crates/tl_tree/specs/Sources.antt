@@ -1,8 +1,8 @@
--- Where the start tags of a page stand, by the tokens that tree construction takes of it: each
--- piece of the page is taken from where the one before it ends, in the state that the tokenizer
--- goes on in.
-use Rattle.std.specs.Option.{option_and_then, option_map}
-use Rattle.std.specs.Prelude.{List, None, Option, Some, false, slice_get, true, ℕ, ◌+◌, ◌≡◌}
+-- Where the marks of a page stand, by the tokens that tree construction takes of it: each piece of
+-- the page is taken from where the one before it ends, in the state that the tokenizer goes on in.
+-- Marks are all tokens but characters and the end of the page.
+use Rattle.std.specs.Option.{option_and_then, option_map, unwrap_or}
+use Rattle.std.specs.Prelude.{Bool, List, None, Option, Some, [], false, if◌then◌else◌, length, slice_get, suc, true, zero, ℕ, ◌++◌, ◌∷◌, ◌≡◌, ◌≤◌}
 use Rattle.tl_dom_spec.specs.Builder.{Builder, Flags}
 use Rattle.tl_dom_spec.specs.Driver.{builder}
 use Rattle.tl_dom_spec.specs.HtmlTree.{Context, context_state, fragment_start, page_start}
@@ -17,21 +17,30 @@ use Rattle.tl_html_tokens.specs.Tokens.{mark_len}
 use Rattle.tl_html_tokens.specs.declared.front.Front.{Front}
 use Rattle.tl_html_tokens.specs.declared.mode.Mode.{Mode}
 use Rattle.tl_html_tokens.specs.declared.section.Section.{Section}
+use Rattle.tl_html_tokens.specs.declared.stage.TokenKind.{TokenKind}
 use Rattle.tl_html_tokens.specs.declared.stage.TokenKind.TheVariants as kind
 use Rattle.tl_tree.specs.Asked.{node_at}
-use Rattle.tl_tree.specs.Rows.{Node, Row, an_element}
+use Rattle.tl_tree.specs.Rows.{Node, a_comment, a_doctype, a_text, an_element, contents}
 use Rattle.tl_tree.specs.TreeView.{rows_in}
+use Rattle.tl_tree.specs.declared.source.Bounds.{Bounds}
 use Rattle.tl_tree.specs.declared.source.Source.{Source}
-use Rattle.tl_tree.specs.declared.span.Span.{Span}
 use Rattle.tl_tree.specs.declared.tree.Tree.{Tree}
 
 -- What is read
 
--- how far a page is read: how the tokenizer goes on there, and what the tree builder holds
+-- a mark, and where it stands
+pub record Mark : Type 0 where
+  pub kind : TokenKind
+  pub start : ℕ
+  pub end : ℕ
+
+-- how far a page is read: how the tokenizer goes on there, what the tree builder holds, and the
+-- marks so far, of which the first has the number 0
 pub record Reached : Type 0 where
   pub at : ℕ
   pub state : State
   pub built : Builder
+  pub marks : List Mark
 
 -- before the first token of a page, behind a byte order mark
 abbrev pub page_begin : Flags → List ℕ → Reached
@@ -39,6 +48,7 @@ page_begin flags page = record {
   at = mark_len page;
   state = data_state;
   built = page_start flags;
+  marks = [];
 }
 
 -- before the first token of a fragment
@@ -47,6 +57,7 @@ fragment_begin flags context = record {
   at = 0;
   state = context_state flags context.tag;
   built = fragment_start flags context;
+  marks = [];
 }
 
 -- what stands there, in front, is one token or a text, and no CDATA section
@@ -55,12 +66,25 @@ pub record Stands (page : List ℕ) (r : Reached) (mode : Mode) (front : Front) 
   pub piece : IsFront page r.at mode front
   pub no_section : opens_section builder r.built page r.at mode ≡ false
 
+abbrev pub is_mark : TokenKind → Bool
+is_mark kind.Text = false
+is_mark kind.Nothing = false
+is_mark _ = true
+
+-- with what stands in front at a place, if it is a mark
+abbrev pub with_mark : List Mark → ℕ → Front → List Mark
+with_mark marks start front =
+    if is_mark front.kind
+    then marks ++ record { kind = front.kind; start = start; end = front.end } ∷ []
+    else marks
+
 -- behind it, once its tokens were taken
 abbrev pub behind_front : Reached → Front → List Emission → Reached
 behind_front r front emits = record {
   at = front.end;
   state = state_set builder (taken builder r.built emits) front;
   built = taken builder r.built emits;
+  marks = with_mark r.marks r.at front;
 }
 
 -- behind a CDATA section
@@ -69,6 +93,7 @@ behind_section page r section = record {
   at = section.end;
   state = data_state;
   built = taken builder r.built (characters (with_feeds (section_text page r.at section)));
+  marks = r.marks;
 }
 
 -- how far a page is read from its begin on, one piece after the other
@@ -83,46 +108,91 @@ pub data Reads (page : List ℕ) (begin : Reached) : Reached → Type 0 where
       IsSection page r.at section →
       Reads page begin (behind_section page r section)
 
--- the start tag of a number stands from one byte to another: as many were taken before it
-pub record IsStartTagAt (page : List ℕ) (begin : Reached) (number start end : ℕ)
-    : Type 0 where
-  pub before : Reached
-  pub mode : Mode
-  pub front : Front
-  pub read : Reads page begin before
-  pub count : before.built.starts ≡ number
-  pub stands : Stands page before mode front
-  pub is_start : front.kind ≡ kind.StartTag
-  pub from : start ≡ before.at
-  pub to : end ≡ front.end
+-- What a tree answers, by the places that it keeps: where the page begins, and its marks
 
--- What a tree answers
+abbrev pub source_of : Bounds → Source
+source_of bounds = record { start = bounds.start; end = bounds.end }
 
--- the number of the start tag of an element, if one stands for it
-abbrev pub number_of : Node → Option ℕ
-number_of (an_element tag) = tag.source
-number_of _ = None
+abbrev pub place_at : Tree → ℕ → Option Source
+place_at tree index = option_map source_of (slice_get tree.sources.items index)
 
-abbrev pub number_at : List Row → ℕ → Option ℕ
-number_at rows row = option_and_then number_of (node_at rows row)
+-- where the next mark begins, or the end of the page
+abbrev pub start_or : ℕ → Option Source → ℕ
+start_or end source = unwrap_or (option_map (λ (s : Source). s.start) source) end
 
-abbrev pub source_of : Span → Source
-source_of span = record { start = span.start; end = span.start + span.len }
+-- what stands behind so many marks
+abbrev pub gap_at : Tree → ℕ → Option Source
+gap_at tree marks =
+    option_map
+    (λ (before : Source).
+    record {
+      start = before.end;
+      end = start_or (length tree.store.page.now) (place_at tree (suc marks));
+    })
+    (place_at tree marks)
 
--- where the start tag of a row stands, by the places that the tree keeps
+abbrev pub start_tag_at : Tree → Option ℕ → Option Source
+start_tag_at tree None = None
+start_tag_at tree (Some number) = place_at tree (suc number)
+
+abbrev pub node_source : Tree → Node → Option Source
+node_source tree (an_element tag) = start_tag_at tree tag.source
+node_source tree contents = None
+node_source tree (a_text own) = gap_at tree own.source
+node_source tree (a_comment own) = place_at tree (suc own.source)
+node_source tree (a_doctype own) = place_at tree (suc own.source)
+
+-- where a row comes from
 abbrev pub source_at : Tree → ℕ → Option Source
-source_at tree row =
-    option_and_then
-    (λ number. option_map source_of (slice_get tree.sources.items number))
-    (number_at (rows_in tree) row)
+source_at tree row = option_and_then (node_source tree) (node_at (rows_in tree) row)
 
--- an answer is the place of the start tag of a number
-abbrev pub IsSourceOf : List ℕ → Reached → ℕ → Option Source → Type 0
-IsSourceOf page begin number None = ⊥
-IsSourceOf page begin number (Some source) =
-    IsStartTagAt page begin number source.start source.end
+-- What that is, where a page is read
 
--- so is that of each row that has a number; without one there is no answer (`source_at`)
-abbrev pub AreSourced : List ℕ → Reached → Tree → Type 0
-AreSourced page begin tree = (row number : ℕ) → number_at (rows_in tree) row ≡ Some number →
-    IsSourceOf page begin number (source_at tree row)
+-- the mark of a number is of a kind, and stands there
+abbrev pub IsMarkAt : List Mark → TokenKind → ℕ → Option Source → Type 0
+IsMarkAt marks kind number None = ⊥
+IsMarkAt marks kind number (Some source) =
+    slice_get marks number ≡ Some (record { kind = kind; start = source.start; end = source.end })
+
+-- the start tag of an element, if one stands for it
+abbrev pub IsStartTagAt : List Mark → Option ℕ → Option Source → Type 0
+IsStartTagAt marks None source = source ≡ None
+IsStartTagAt marks (Some number) source = IsMarkAt marks kind.StartTag number source
+
+-- where the marks before a number end: the page begins there, or the one before it ends
+abbrev pub gap_start : ℕ → List Mark → ℕ → ℕ
+gap_start begin marks zero = begin
+gap_start begin marks (suc number) =
+    unwrap_or (option_map (λ (m : Mark). m.end) (slice_get marks number)) begin
+
+-- where the mark of a number begins, or else the page ends
+abbrev pub gap_end : ℕ → List Mark → ℕ → ℕ
+gap_end end marks number =
+    unwrap_or (option_map (λ (m : Mark). m.start) (slice_get marks number)) end
+
+-- what stands behind so many marks, and before the next one
+abbrev pub IsGapAt : ℕ → ℕ → List Mark → ℕ → Option Source → Type 0
+IsGapAt begin end marks number None = ⊥
+IsGapAt begin end marks number (Some source) =
+    (number ≤ length marks)
+    × (source.start ≡ gap_start begin marks number)
+    × (source.end ≡ gap_end end marks number)
+
+-- an answer is where a node comes from: of an element its start tag, of a comment and a doctype its
+-- token, of a text what stands between two marks
+abbrev pub IsSourceOf : ℕ → ℕ → List Mark → Node → Option Source → Type 0
+IsSourceOf begin end marks (an_element tag) source = IsStartTagAt marks tag.source source
+IsSourceOf begin end marks contents source = source ≡ None
+IsSourceOf begin end marks (a_text own) source = IsGapAt begin end marks own.source source
+IsSourceOf begin end marks (a_comment own) source =
+    IsMarkAt marks kind.Comment own.source source
+IsSourceOf begin end marks (a_doctype own) source =
+    IsMarkAt marks kind.Doctype own.source source
+
+-- where the page is read to its end, so is that of each row; no other row has one (`source_at`)
+pub record AreSourced (page : List ℕ) (begin : Reached) (tree : Tree) : Type 0 where
+  pub last : Reached
+  pub read : Reads page begin last
+  pub whole : length page ≤ last.at
+  pub each : (row : ℕ) (node : Node) → node_at (rows_in tree) row ≡ Some node →
+      IsSourceOf begin.at (length page) last.marks node (source_at tree row)

@@ -1,10 +1,10 @@
 //! What is put in the store of a path: bytes, and what tokens of the page say.
-ghost use Rattle.std.specs.Prelude.{Bool, IfOk, IsTrue, List, Some, [], length, ◌<◌, ◌≡◌, ◌≤◌, ◌∷◌, ℕ};
+ghost use Rattle.std.specs.Prelude.{IfOk, IsTrue, Some, [], length, ◌<◌, ◌≡◌, ◌≤◌, ◌∷◌};
 ghost use Rattle.tl_dom_spec.specs.Tags.{html_tag};
-ghost use Rattle.tl_html_spec.specs.HtmlTokenizer.{HtmlAttribute, StartTag};
+ghost use Rattle.tl_html_parts.specs.Parts.{attributes_of, name_of};
+ghost use Rattle.tl_html_parts.specs.Places.{AreParts, IsPart, pairs_in, part_in};
 ghost use Rattle.tl_html_tokens.specs.Characters.{characters_of};
 ghost use Rattle.tl_html_tokens.specs.Comments.{comment_of};
-ghost use Rattle.tl_html_tokens.specs.Whole.{IsWhole};
 ghost use Rattle.tl_html_tokens.specs.Doctypes.{doctype_said};
 ghost use Rattle.tl_tree.specs.Inner.Said.{piece_at};
 ghost use Rattle.tl_tree.specs.Inner.Frames.{path_of};
@@ -19,14 +19,8 @@ use crate::said_doctype::doctype;
 use crate::span::Span;
 use crate::store::Store;
 use std::alloc::Global;
+use tl_html_parts::{AttributePlace, PartPlace};
 use tl_html_tokens::Mode;
-
-/// A start tag in the store, and whether it closes itself.
-#[derive(Clone, Copy)]
-pub(crate) struct AddedTag {
-    pub(crate) number: u32,
-    pub(crate) closes: bool,
-}
 
 impl<'a> Store<'a> {
     // Puts a start tag of the page in the store, with its number among those of the page.
@@ -34,38 +28,27 @@ impl<'a> Store<'a> {
         &mut self,
         alloc: Global,
         room: &mut Vec<AttributeEntry>,
-        start: usize,
-        end: usize,
+        name: PartPlace,
+        attributes: &[AttributePlace],
         source: u32,
-    ) -> Result<AddedTag, GrowError>
-        requires order { start ≤ end }
-        requires within { end ≤ length self.old.page.now }
-        ensures tag { IfOk result (λ added. (mode : Mode) (name : List ℕ)
-            (attributes : List HtmlAttribute) (closes : Bool) →
-            IsWhole mode (piece_at self.old.page.now start end)
-            (StartTag name attributes closes ∷ []) →
-            tag_at self.new added.number
-            ≡ record (html_tag name attributes) { source = Some source }) }
-        ensures closes { IfOk result (λ added. (mode : Mode) (name : List ℕ)
-            (attributes : List HtmlAttribute) (closes : Bool) →
-            IsWhole mode (piece_at self.old.page.now start end)
-            (StartTag name attributes closes ∷ []) →
-            added.closes ≡ closes) }
-        ensures number { IfOk result
-            (λ added. added.number < length self.new.tags.items) }
+    ) -> Result<u32, GrowError>
+        requires name { IsPart name_of self.old.page.now name }
+        requires attributes { AreParts self.old.page.now attributes.now }
+        ensures tag { IfOk result (λ number. tag_at self.new number
+            ≡ record (html_tag (name_of (part_in self.old.page.now name))
+            (attributes_of (pairs_in self.old.page.now attributes.now))) {
+              source = Some source;
+            }) }
+        ensures number { IfOk result (λ number. number < length self.new.tags.items) }
         ensures grows { Grows self.old self.new }
     {
-        let said = start_tag(self, alloc, room, start, end)?;
+        let said = start_tag(self, alloc, room, name, attributes)?;
         let Some(next) = source.checked_add(1) else {
             return Err(GrowError::TooLarge);
         };
-        let number = self.add_tag(TagEntry {
+        self.add_tag(TagEntry {
             start: next,
-            ..said.tag
-        })?;
-        Ok(AddedTag {
-            number,
-            closes: said.closes,
+            ..said
         })
     }
 
@@ -124,30 +107,25 @@ impl<'a> FramePath<'a> {
         &mut self,
         alloc: Global,
         room: &mut Vec<AttributeEntry>,
-        start: usize,
-        end: usize,
+        name: PartPlace,
+        attributes: &[AttributePlace],
         source: u32,
-    ) -> Result<AddedTag, GrowError>
-        requires order { start ≤ end }
-        requires within { end ≤ length self.old.store.page.now }
-        ensures tag { IfOk result (λ added. (mode : Mode) (name : List ℕ)
-            (attributes : List HtmlAttribute) (closes : Bool) →
-            IsWhole mode (piece_at self.old.store.page.now start end)
-            (StartTag name attributes closes ∷ []) →
-            tag_at self.new.store added.number
-            ≡ record (html_tag name attributes) { source = Some source }) }
-        ensures closes { IfOk result (λ added. (mode : Mode) (name : List ℕ)
-            (attributes : List HtmlAttribute) (closes : Bool) →
-            IsWhole mode (piece_at self.old.store.page.now start end)
-            (StartTag name attributes closes ∷ []) →
-            added.closes ≡ closes) }
+    ) -> Result<u32, GrowError>
+        requires name { IsPart name_of self.old.store.page.now name }
+        requires attributes { AreParts self.old.store.page.now attributes.now }
+        ensures tag { IfOk result (λ number. tag_at self.new.store number
+            ≡ record (html_tag (name_of (part_in self.old.store.page.now name))
+            (attributes_of (pairs_in self.old.store.page.now attributes.now))) {
+              source = Some source;
+            }) }
         ensures number { IfOk result
-            (λ added. added.number < length self.new.store.tags.items) }
+            (λ number. number < length self.new.store.tags.items) }
         ensures path { path_of self.new ≡ path_of self.old }
         ensures next { self.new.next ≡ self.old.next }
         ensures grows { Grows self.old.store self.new.store }
     {
-        self.store.add_start_tag(alloc, room, start, end, source)
+        self.store
+            .add_start_tag(alloc, room, name, attributes, source)
     }
 
     /// The characters of a text of the page, which is read in this mode, as bytes of the store.

@@ -5,6 +5,7 @@ use crate::entries::{AttributeEntry, AttributeSpace};
 use crate::row::Held;
 use crate::store::Store;
 use crate::tree::Tree;
+use crate::words::Words;
 use std::iter::FusedIterator;
 use std::marker::Model;
 
@@ -39,9 +40,10 @@ impl<'t, 'p> Model for Attributes<'t, 'p> {
 
 impl<'p> Tree<'p> {
     ghost use Rattle.std.specs.List.{list_all};
-    ghost use Rattle.std.specs.Option.{option_copied};
-    ghost use Rattle.std.specs.Prelude.{IsTrue, ◌≡◌};
+    ghost use Rattle.std.specs.Option.{option_copied, unwrap_or};
+    ghost use Rattle.std.specs.Prelude.{IsTrue, [], codes, ◌≡◌};
     ghost use Rattle.tl_tree.specs.Asked.{attributes_at, value_of};
+    ghost use Rattle.tl_tree.specs.Below.{words_of};
     ghost use Rattle.tl_tree.specs.Inner.Said.{attributes_in};
     ghost use Rattle.tl_tree.specs.Inner.Store.{is_attribute};
     ghost use Rattle.tl_tree.specs.TreeView.{rows_in};
@@ -77,11 +79,29 @@ impl<'p> Tree<'p> {
             ≡ value_of key.now (attributes_at (rows_in self.now) number) }
     {
         for entry in self.entries(number) {
-            if entry.space == AttributeSpace::Plain && self.store.bytes(entry.key) == key {
+            if self.store.is_plain_key(*entry, key) {
                 return Some(self.store.bytes(entry.value));
             }
         }
         None
+    }
+
+    /// The id of an element.
+    pub fn id(&self, number: usize) -> Option<&[u8]>
+        ensures { option_copied result
+            ≡ value_of (codes "id") (attributes_at (rows_in self.now) number) }
+    {
+        self.value(number, b"id")
+    }
+
+    /// The classes of an element, in the order of its value.
+    pub fn classes(&self, number: usize) -> Words<'_>
+        ensures { result ≡ words_of (unwrap_or
+            (value_of (codes "class") (attributes_at (rows_in self.now) number)) []) }
+    {
+        Words {
+            left: self.value(number, b"class").unwrap_or(b""),
+        }
     }
 }
 

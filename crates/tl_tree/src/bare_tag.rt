@@ -22,6 +22,7 @@ impl<'a> Store<'a> {
             space: Namespace::Html,
             name,
             known: ElementName::OTHER,
+            number: 0,
             list: AttributeList::Tags,
             first_attribute: 0,
             attribute_count: 0,

@@ -14,7 +14,6 @@ ghost use Rattle.tl_tree.specs.Inner.Tests.{tag_test_of};
 use crate::active_entry::Listed;
 use crate::builder::Builder;
 use crate::error::GrowError;
-use crate::frame::Mark;
 use crate::test::{TagTest, Test};
 
 impl<'a> Builder<'a> {
@@ -128,7 +127,7 @@ impl<'a> Builder<'a> {
             ≡ with_path (builder_of self.old) (taken_out number (builder_of self.old).path)) }
         ensures token { token_of self.new ≡ token_of self.old }
     {
-        self.path.take_out(Mark::new(number, number as usize))
+        self.path.take_out(number)
     }
 
     /// Inserts an element for the token, to which the form element pointer points then.

@@ -11,11 +11,11 @@ use crate::active::ActiveList;
 use crate::cell::Node;
 use crate::entries::DoctypeEntry;
 use crate::error::GrowError;
-use crate::frame::{Mark, Place};
+use crate::frame::Place;
 use crate::mode::Mode;
 use crate::names::Names;
 use crate::path::FramePath;
-use crate::span::Span;
+use crate::span::{Piece, Span};
 use crate::test::{TagTest, Test};
 use std::alloc::Global;
 use tl_html_tokens::Mode as TextMode;
@@ -61,8 +61,8 @@ pub(crate) struct Builder<'a> {
     pub(crate) added: u32,
     /// By how many these were more than four for each token, where that was most.
     pub(crate) excess: u32,
-    /// How many start tags were taken: the number of the next one.
-    pub(crate) starts: u32,
+    /// How many marks were taken: the number of the next one.
+    pub(crate) marks: u32,
     pub(crate) flags: Flags,
     /// The tag of the token that is processed, where it is a start tag.
     pub(crate) tag: u32,
@@ -70,6 +70,8 @@ pub(crate) struct Builder<'a> {
     pub(crate) text: Span,
     /// The number of it, where it is a doctype.
     pub(crate) doctype: u32,
+    /// Its number among the marks, where it is a comment or a doctype.
+    pub(crate) source: u32,
     /// Where it may stand in the page, where it is a character: a hint, on which no answer depends.
     pub(crate) hint: u32,
     ghost known: { AreKnown
@@ -99,7 +101,7 @@ impl<'a> Builder<'a> {
     ghost use Rattle.tl_dom_spec.specs.Tags.{bare_tag};
     ghost use Rattle.tl_tree.specs.Inner.Frames.{place_of};
     ghost use Rattle.tl_tree.specs.Inner.Tests.{tag_test_of};
-    ghost use Rattle.tl_tree.specs.Inner.Builders.{builder_of, flags_of, token_of};
+    ghost use Rattle.tl_tree.specs.Inner.Builders.{builder_of, comment_of, flags_of, token_of};
     ghost use Rattle.tl_tree.specs.Inner.Modes.{mode_of};
     ghost use Rattle.tl_tree.specs.Inner.Store.{bytes_of, is_span, tag_at};
 
@@ -138,11 +140,12 @@ impl<'a> Builder<'a> {
             tokens: 0,
             added: 0,
             excess: 0,
-            starts: 0,
+            marks: 0,
             flags,
             tag: 0,
             text: nothing,
             doctype,
+            source: 0,
             hint: 0,
         })
     }
@@ -373,6 +376,7 @@ impl<'a> Builder<'a> {
     // What is inserted
 
     /// Inserts bytes of the text.
+    #[inline(always)]
     pub(crate) fn insert_bytes(&mut self, text: Span) -> Result<(), GrowError>
         requires { IsTrue (is_span self.old.path.store text) }
         ensures ok { OnOk result (builder_of self.new
@@ -380,7 +384,9 @@ impl<'a> Builder<'a> {
         ensures token { token_of self.new ≡ token_of self.old }
     {
         let place = self.path.place_in(self.is_fostering);
-        self.path.put(place, Node::Text(text))
+        let source = self.marks;
+        self.path
+            .put(place, Node::Text(Piece { span: text, source }))
     }
 
     /// Inserts a character.
@@ -396,17 +402,19 @@ impl<'a> Builder<'a> {
     // Inserts the comment that the token is, at a place.
     fn put_comment(&mut self, place: Place) -> Result<(), GrowError>
         ensures ok { OnOk result (builder_of self.new
-            ≡ insert_comment_at (place_of place) (token_of self.old).text (builder_of self.old)) }
+            ≡ insert_comment_at (place_of place) (comment_of (token_of self.old))
+            (builder_of self.old)) }
         ensures token { token_of self.new ≡ token_of self.old }
     {
-        let text = self.text;
-        self.path.put(place, Node::Comment(text))
+        let span = self.text;
+        let source = self.source;
+        self.path.put(place, Node::Comment(Piece { span, source }))
     }
 
     /// Inserts the comment that the token is.
     pub(crate) fn insert_comment(&mut self) -> Result<(), GrowError>
         ensures ok { OnOk result (builder_of self.new
-            ≡ insert_comment (token_of self.old).text (builder_of self.old)) }
+            ≡ insert_comment (comment_of (token_of self.old)) (builder_of self.old)) }
         ensures token { token_of self.new ≡ token_of self.old }
     {
         let place = self.path.place_in(self.is_fostering);
@@ -416,10 +424,11 @@ impl<'a> Builder<'a> {
     /// Inserts the comment that the token is behind the open child of the frame of a number.
     pub(crate) fn insert_comment_behind(&mut self, number: u32) -> Result<(), GrowError>
         ensures ok { OnOk result (builder_of self.new
-            ≡ insert_comment_at (behind number) (token_of self.old).text (builder_of self.old)) }
+            ≡ insert_comment_at (behind number) (comment_of (token_of self.old))
+            (builder_of self.old)) }
         ensures token { token_of self.new ≡ token_of self.old }
     {
-        let place = Place::Behind(Mark::new(number, number as usize));
+        let place = Place::Behind(number);
         self.put_comment(place)
     }
 

@@ -1,13 +1,13 @@
 //! Nodes in a row, as cells that refer to the cells before them.
 
-use crate::span::Span;
+use crate::span::Piece;
 
-/// A node, or a whole row of nodes. Rows, tags and doctypes are numbers.
+/// A node, or a whole row of nodes. Rows, tags and doctypes are numbers; `source` is one of marks.
 #[derive(Clone, Copy)]
 pub(crate) enum Node {
-    Text(Span),
-    Comment(Span),
-    Doctype(u32),
+    Text(Piece),
+    Comment(Piece),
+    Doctype { doctype: u32, source: u32 },
     Element { tag: u32, below: u32 },
     /// The nodes of another row.
     Joined(u32),

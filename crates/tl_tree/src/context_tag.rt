@@ -63,6 +63,7 @@ impl<'a> Store<'a> {
             space: context.namespace,
             name,
             known: ElementName::OTHER,
+            number: 0,
             list: AttributeList::Tags,
             first_attribute,
             attribute_count,

@@ -56,6 +56,7 @@ impl<'a> Builder<'a> {
     }
 
     // Whether a token goes to the insertion mode, where the adjusted current node has this tag.
+    #[inline(always)]
     fn is_html_content_at(&self, tag: u32, token: Token<'_>) -> bool
         requires { IsTrue (is_tag_number self.now.path.store tag) }
         ensures { result ≡ is_html_content (tag_at self.now.path.store tag)
@@ -80,6 +81,7 @@ impl<'a> Builder<'a> {
     }
 
     /// Whether a token goes to the insertion mode.
+    #[inline(always)]
     pub(crate) fn is_html_content(&self, token: Token<'_>) -> bool
         ensures { result ≡ is_html_content (adjusted_current_node (builder_of self.now))
             (token_view token.entry (token_of self.now)) }
@@ -88,6 +90,7 @@ impl<'a> Builder<'a> {
     }
 
     // By the rules of an insertion mode.
+    #[inline(always)]
     fn mode_step(&mut self, mode: Mode, token: Token<'_>) -> Result<Outcome, GrowError>
         ensures ok { IfOk result (λ outcome. outcome_of outcome (builder_of self.new)
             ≡ mode_step (mode_of mode) (builder_of self.old)
@@ -120,6 +123,7 @@ impl<'a> Builder<'a> {
     }
 
     /// By the rules of the current insertion mode.
+    #[inline(always)]
     pub(crate) fn html_step(&mut self, token: Token<'_>) -> Result<Outcome, GrowError>
         ensures ok { IfOk result (λ outcome. outcome_of outcome (builder_of self.new)
             ≡ html_step (builder_of self.old) (token_view token.entry (token_of self.old))) }
@@ -130,6 +134,7 @@ impl<'a> Builder<'a> {
     }
 
     /// Takes a token by the rules that it goes to.
+    #[inline(always)]
     pub(crate) fn dispatch(&mut self, token: Token<'_>) -> Result<Outcome, GrowError>
         ensures ok { IfOk result (λ outcome. outcome_of outcome (builder_of self.new)
             ≡ dispatch (token_view token.entry (token_of self.old)) (builder_of self.old)) }

@@ -39,10 +39,10 @@ impl<'p> Tree<'p> {
         ensures { option_map doctype_said result
             ≡ option_and_then doctype_of (node_at (rows_in self.now) number) }
     {
-        let Held::Doctype(own) = self.rows.get(number)?.held else {
+        let Held::Doctype { doctype, source: _ } = self.rows.get(number)?.held else {
             return None;
         };
-        let entry = self.store.doctype(own);
+        let entry = self.store.doctype(doctype);
         Some(Doctype {
             name: self.store.bytes(entry.name),
             public_id: self.id_bytes(entry.public_id),

@@ -79,6 +79,8 @@ pub(crate) struct TagEntry {
     pub(crate) space: Namespace,
     pub(crate) name: Span,
     pub(crate) known: ElementName,
+    /// The number of its name, in any case.
+    pub(crate) number: u32,
     pub(crate) list: AttributeList,
     pub(crate) first_attribute: u32,
     pub(crate) attribute_count: u32,

@@ -13,7 +13,7 @@ use crate::cell::Node;
 use crate::error::GrowError;
 use crate::path::FramePath;
 use crate::settle::tree_of;
-use crate::span::Span;
+use crate::source::Bounds;
 use crate::test::Test;
 use crate::tree::Tree;
 use std::alloc::Global;
@@ -24,6 +24,7 @@ impl<'a> FramePath<'a> {
         ensures stands { IfOk result (λ row. nodes_of self.new.store row
             ≡ joined (top (path_of self.old)).children (top (path_of self.old)).waiting) }
         ensures within { IfOk result (λ row. IsTrue (is_row self.new.store row)) }
+        ensures page { self.new.store.page.now ≡ self.old.store.page.now }
     {
         let top = self.top();
         let frame = self.folded(top)?;
@@ -40,6 +41,7 @@ impl<'a> FramePath<'a> {
             ≡ joined (top (popped_to (test_of test.entry) (path_of self.old))).children
             (top (popped_to (test_of test.entry) (path_of self.old))).waiting) }
         ensures within { IfOk result (λ row. IsTrue (is_row self.new.store row)) }
+        ensures page { self.new.store.page.now ≡ self.old.store.page.now }
     {
         self.pop_to(test)?;
         self.top_content()
@@ -48,17 +50,19 @@ impl<'a> FramePath<'a> {
 
 impl<'a> Builder<'a> {
     /// The tree of what stands in the innermost frame that passes a test, or in the document, with
-    /// the places of the start tags.
+    /// the places of the marks.
     pub(crate) fn into_tree(
         self,
         alloc: Global,
-        sources: Vec<Span>,
+        sources: Vec<Bounds>,
         test: Test<'_>,
     ) -> Result<Tree<'a>, GrowError>
         ensures tree { IfOk result (λ tree. rows_in tree
             ≡ rows_of
             (trees_in (top (popped_to (test_of test.entry) (builder_of self.entry).path)))) }
         ensures sources { IfOk result (λ tree. tree.sources.items ≡ sources.items) }
+        ensures page { IfOk result
+            (λ tree. tree.store.page.now ≡ self.entry.path.store.page.now) }
         ensures quirks { IfOk result
             (λ tree. tree.is_quirks ≡ (builder_of self.entry).is_quirks) }
     {

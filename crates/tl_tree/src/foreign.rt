@@ -125,6 +125,8 @@ impl<'a> Builder<'a> {
     }
 
     /// By the rules of foreign content.
+    #[cold]
+    #[inline(never)]
     pub(crate) fn foreign_step(&mut self, token: Token<'_>) -> Result<Outcome, GrowError>
         ensures ok { IfOk result (λ outcome. outcome_of outcome (builder_of self.new)
             ≡ foreign_step (builder_of self.old) (token_view token.entry (token_of self.old))) }

@@ -143,6 +143,7 @@ impl<'a> Store<'a> {
             space,
             name,
             known: ElementName::OTHER,
+            number: 0,
             list,
             first_attribute,
             attribute_count: own.attribute_count,

@@ -54,7 +54,10 @@ pub(crate) fn is_plain(store: &Store<'_>, node: Node) -> bool
     match node {
         Node::Text(_) => true,
         Node::Comment(_) => true,
-        Node::Doctype(_) => true,
+        Node::Doctype {
+            doctype: _,
+            source: _,
+        } => true,
         Node::Element { tag, below: _ } => !TagTest::Any(Names::Head).passes(store, tag),
         Node::Joined(_) => false,
     }

@@ -1,18 +1,17 @@
 //! What a token of the page says, held by the builder while it is processed.
-ghost use Rattle.std.specs.Prelude.{Bool, IfOk, IsTrue, List, OnOk, Some, [], length, ◌<◌, ◌≡◌, ◌≤◌, ◌∷◌, ℕ};
+ghost use Rattle.std.specs.Prelude.{IfOk, IsTrue, OnOk, Some, length, ◌<◌, ◌≡◌, ◌≤◌};
 ghost use Rattle.tl_dom_spec.specs.Groups.{group};
 ghost use Rattle.tl_dom_spec.specs.Tags.{has_value, html_tag};
-ghost use Rattle.tl_html_spec.specs.HtmlTokenizer.{HtmlAttribute, StartTag};
+ghost use Rattle.tl_html_parts.specs.Parts.{attributes_of, name_of};
+ghost use Rattle.tl_html_parts.specs.Places.{AreParts, IsPart, pairs_in, part_in};
 ghost use Rattle.tl_html_tokens.specs.Characters.{characters_of};
 ghost use Rattle.tl_html_tokens.specs.Comments.{comment_of};
-ghost use Rattle.tl_html_tokens.specs.Whole.{IsWhole};
 ghost use Rattle.tl_tree.specs.Inner.Builders.{builder_of, token_of};
 ghost use Rattle.tl_html_tokens.specs.Doctypes.{doctype_said};
 ghost use Rattle.tl_tree.specs.Inner.GroupNames.{group_view};
 ghost use Rattle.tl_tree.specs.Inner.Said.{piece_at};
 ghost use Rattle.tl_tree.specs.Inner.Store.{bytes_of, doctype_at, is_span, is_tag_number, tag_at};
 
-use crate::added::AddedTag;
 use crate::builder::Builder;
 use crate::entries::AttributeEntry;
 use crate::error::GrowError;
@@ -21,14 +20,8 @@ use crate::integration::has_value;
 use crate::span::Span;
 use crate::store::Store;
 use std::alloc::Global;
+use tl_html_parts::{AttributePlace, PartPlace};
 use tl_html_tokens::Mode;
-
-/// A start tag that is held: the group of its name, and whether it closes itself.
-#[derive(Clone, Copy)]
-pub(crate) struct HeldTag {
-    pub(crate) group: Group,
-    pub(crate) closes: bool,
-}
 
 /// The group of the name of a tag.
 pub(crate) fn tag_group(store: &Store<'_>, number: u32) -> Group
@@ -45,31 +38,24 @@ impl<'a> Builder<'a> {
         &mut self,
         alloc: Global,
         room: &mut Vec<AttributeEntry>,
-        start: usize,
-        end: usize,
-    ) -> Result<AddedTag, GrowError>
-        requires order { start ≤ end }
-        requires within { end ≤ length self.old.path.store.page.now }
+        name: PartPlace,
+        attributes: &[AttributePlace],
+    ) -> Result<u32, GrowError>
+        requires name { IsPart name_of self.old.path.store.page.now name }
+        requires attributes { AreParts self.old.path.store.page.now attributes.now }
         ensures ok { builder_of self.new ≡ builder_of self.old }
         ensures token { token_of self.new ≡ token_of self.old }
-        ensures tag { IfOk result (λ added. (mode : Mode) (name : List ℕ)
-            (attributes : List HtmlAttribute) (closes : Bool) →
-            IsWhole mode (piece_at self.old.path.store.page.now start end)
-            (StartTag name attributes closes ∷ []) →
-            tag_at self.new.path.store added.number
-            ≡ record (html_tag name attributes) {
-              source = Some (builder_of self.old).starts;
+        ensures tag { IfOk result (λ number. tag_at self.new.path.store number
+            ≡ record (html_tag (name_of (part_in self.old.path.store.page.now name))
+            (attributes_of (pairs_in self.old.path.store.page.now attributes.now))) {
+              source = Some (builder_of self.old).marks;
             }) }
-        ensures closes { IfOk result (λ added. (mode : Mode) (name : List ℕ)
-            (attributes : List HtmlAttribute) (closes : Bool) →
-            IsWhole mode (piece_at self.old.path.store.page.now start end)
-            (StartTag name attributes closes ∷ []) →
-            added.closes ≡ closes) }
         ensures number { IfOk result
-            (λ added. added.number < length self.new.path.store.tags.items) }
+            (λ number. number < length self.new.path.store.tags.items) }
     {
-        let source = self.starts;
-        self.path.add_start_tag(alloc, room, start, end, source)
+        let source = self.marks;
+        self.path
+            .add_start_tag(alloc, room, name, attributes, source)
     }
 
     /// The text of a page, which is read in this mode, as bytes of the store.
@@ -138,6 +124,16 @@ impl<'a> Builder<'a> {
         self.doctype = doctype;
     }
 
+    // The token that is held is the next mark.
+    #[tactic(auto, unfolding(crate::specs::Inner::Builders::builder_of, crate::specs::Inner::Builders::token_of))]
+    fn set_source(&mut self)
+        ensures ok { builder_of self.new ≡ builder_of self.old }
+        ensures token { token_of self.new
+            ≡ record (token_of self.old) { source = (builder_of self.old).marks } }
+    {
+        self.source = self.marks;
+    }
+
     // The group of the name of the tag that is held.
     fn held_group(&self) -> Group
         ensures { group_view result ≡ group (token_of self.now).tag.name }
@@ -145,40 +141,29 @@ impl<'a> Builder<'a> {
         tag_group(&self.path.store, self.tag)
     }
 
-    /// Holds a start tag of the page.
+    /// Holds a start tag of the page, and answers the group of its name.
     pub(crate) fn hold_start_tag(
         &mut self,
         alloc: Global,
         room: &mut Vec<AttributeEntry>,
-        start: usize,
-        end: usize,
-    ) -> Result<HeldTag, GrowError>
-        requires order { start ≤ end }
-        requires within { end ≤ length self.old.path.store.page.now }
+        name: PartPlace,
+        attributes: &[AttributePlace],
+    ) -> Result<Group, GrowError>
+        requires name { IsPart name_of self.old.path.store.page.now name }
+        requires attributes { AreParts self.old.path.store.page.now attributes.now }
         ensures ok { builder_of self.new ≡ builder_of self.old }
         ensures page { (token_of self.new).page ≡ (token_of self.old).page }
-        ensures tag { IfOk result (λ held. (mode : Mode) (name : List ℕ)
-            (attributes : List HtmlAttribute) (closes : Bool) →
-            IsWhole mode (piece_at self.old.path.store.page.now start end)
-            (StartTag name attributes closes ∷ []) →
-            (token_of self.new).tag
-            ≡ record (html_tag name attributes) {
-              source = Some (builder_of self.old).starts;
+        ensures tag { OnOk result ((token_of self.new).tag
+            ≡ record (html_tag (name_of (part_in self.old.path.store.page.now name))
+            (attributes_of (pairs_in self.old.path.store.page.now attributes.now))) {
+              source = Some (builder_of self.old).marks;
             }) }
         ensures group { IfOk result
-            (λ held. group_view held.group ≡ group (token_of self.new).tag.name) }
-        ensures closes { IfOk result (λ held. (mode : Mode) (name : List ℕ)
-            (attributes : List HtmlAttribute) (closes : Bool) →
-            IsWhole mode (piece_at self.old.path.store.page.now start end)
-            (StartTag name attributes closes ∷ []) →
-            held.closes ≡ closes) }
+            (λ held. group_view held ≡ group (token_of self.new).tag.name) }
     {
-        let added = self.add_start_tag(alloc, room, start, end)?;
-        self.set_tag(added.number);
-        Ok(HeldTag {
-            group: self.held_group(),
-            closes: added.closes,
-        })
+        let number = self.add_start_tag(alloc, room, name, attributes)?;
+        self.set_tag(number);
+        Ok(self.held_group())
     }
 
     /// Holds a comment of the page.
@@ -194,9 +179,11 @@ impl<'a> Builder<'a> {
         ensures page { (token_of self.new).page ≡ (token_of self.old).page }
         ensures text { OnOk result ((token_of self.new).text
             ≡ comment_of (piece_at self.old.path.store.page.now start end)) }
+        ensures source { OnOk result ((token_of self.new).source ≡ (builder_of self.old).marks) }
     {
         let text = self.add_comment(alloc, start, end)?;
         self.set_text(text);
+        self.set_source();
         Ok(())
     }
 
@@ -213,9 +200,11 @@ impl<'a> Builder<'a> {
         ensures page { (token_of self.new).page ≡ (token_of self.old).page }
         ensures doctype { OnOk result ((token_of self.new).doctype
             ≡ doctype_said (piece_at self.old.path.store.page.now start end)) }
+        ensures source { OnOk result ((token_of self.new).source ≡ (builder_of self.old).marks) }
     {
         let doctype = self.add_doctype_of(alloc, start, end)?;
         self.set_doctype(doctype);
+        self.set_source();
         Ok(())
     }
 

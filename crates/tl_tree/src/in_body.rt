@@ -38,6 +38,7 @@ impl<'a> Builder<'a> {
         Ok(Outcome::Again)
     }
 
+    #[inline(always)]
     pub(crate) fn in_body(&mut self, token: Token<'_>) -> Result<Outcome, GrowError>
         ensures ok { IfOk result (λ outcome. outcome_of outcome (builder_of self.new)
             ≡ in_body_step (builder_of self.old) (token_view token.entry (token_of self.old))) }

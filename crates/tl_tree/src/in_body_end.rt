@@ -39,6 +39,7 @@ impl<'a> Builder<'a> {
     }
 
     /// An end tag.
+    #[inline(always)]
     pub(crate) fn body_end(&mut self, group: Group, name: &[u8]) -> Result<Outcome, GrowError>
         ensures ok { IfOk result (λ outcome. outcome_of outcome (builder_of self.new)
             ≡ body_end (builder_of self.old) (group_of group) name.now) }

@@ -81,6 +81,7 @@ impl<'a> Builder<'a> {
     }
 
     /// A start tag.
+    #[inline(always)]
     pub(crate) fn body_start(&mut self, group: Group, closes: bool) -> Result<Outcome, GrowError>
         ensures ok { IfOk result (λ outcome. outcome_of outcome (builder_of self.new)
             ≡ body_start (builder_of self.old) (group_of group) (token_of self.old).tag closes) }

@@ -4,7 +4,7 @@ ghost use Rattle.tl_dom_spec.specs.Builder.{before_html, switch_to};
 ghost use Rattle.tl_dom_spec.specs.Head.{initial_step, without_doctype};
 ghost use Rattle.tl_dom_spec.specs.Path.{and_doctype, here, no_nodes, put};
 ghost use Rattle.tl_dom_spec.specs.Quirks.{is_quirky};
-ghost use Rattle.tl_tree.specs.Inner.Builders.{builder_of, outcome_of, token_of, token_view};
+ghost use Rattle.tl_tree.specs.Inner.Builders.{builder_of, doctype_of, outcome_of, token_of, token_view};
 
 use crate::builder::Builder;
 use crate::cell::Node;
@@ -30,13 +30,15 @@ impl<'a> Builder<'a> {
     fn doctype_inserted(&mut self) -> Result<(), GrowError>
         ensures ok { OnOk result (builder_of self.new
             ≡ record (builder_of self.old) {
-              path = put here (and_doctype no_nodes (token_of self.old).doctype)
+              path = put here (and_doctype no_nodes (doctype_of (token_of self.old)))
                   (builder_of self.old).path;
             }) }
         ensures token { token_of self.new ≡ token_of self.old }
     {
         let doctype = self.doctype;
-        self.path.put(Place::Here, Node::Doctype(doctype))
+        let source = self.source;
+        self.path
+            .put(Place::Here, Node::Doctype { doctype, source })
     }
 
     fn is_doctype_quirky(&self) -> bool
@@ -59,7 +61,7 @@ impl<'a> Builder<'a> {
     fn initial_doctype(&mut self) -> Result<(), GrowError>
         ensures ok { OnOk result (builder_of self.new
             ≡ record (builder_of self.old) {
-              path = put here (and_doctype no_nodes (token_of self.old).doctype)
+              path = put here (and_doctype no_nodes (doctype_of (token_of self.old)))
                   (builder_of self.old).path;
               is_quirks = is_quirky (token_of self.old).doctype;
               mode = before_html;

@@ -6,15 +6,15 @@ ghost use Rattle.tl_names.specs.ElementNames.{element_names, name_of};
 ghost use Rattle.tl_names.specs.Elements.{is_among};
 ghost use Rattle.tl_tree.specs.Inner.Entered.{entered, entered_of};
 ghost use Rattle.tl_tree.specs.Inner.Frames.{test_of};
-ghost use Rattle.tl_tree.specs.Inner.Limits.{is_in_bucket, is_of_kind, none_from};
+ghost use Rattle.tl_tree.specs.Inner.Limits.{is_lowered, is_of_kind, none_from};
+ghost use Rattle.tl_tree.specs.Inner.MetNames.{in_lower_case};
 ghost use Rattle.tl_tree.specs.Inner.NameLists.{list_of};
-ghost use Rattle.tl_tree.specs.Inner.Roles.{bucket_of};
 ghost use Rattle.tl_tree.specs.Inner.Tests.{tag_test_of};
 
-use crate::frame::Mark;
+use crate::met_names::known_number;
 use crate::names::Names;
 use crate::path::FramePath;
-use crate::role::{Kind, bucket_of, known_bucket};
+use crate::role::Kind;
 use crate::test::{TagTest, Test};
 use tl_names::element_name::ElementName;
 
@@ -39,28 +39,37 @@ impl<'a> FramePath<'a> {
         }
     }
 
-    /// From which place on no name of a frame is in the list that a name is in.
-    pub(crate) fn name_limit(&self, name: &[u8]) -> usize
+    // From which place on no frame has a name that is known, in any case.
+    fn known_limit(&self, name: ElementName) -> usize
         ensures within { result ≤ length self.now.frames.items }
-        ensures skips { IsTrue (none_from (is_in_bucket (bucket_of name.now)) self.now result) }
+        ensures skips { (n : List ℕ) → is_among element_names n ≡ true → name ≡ name_of n
+            → IsTrue (none_from (is_lowered (in_lower_case n)) self.now result) }
     {
         if self.knows_all() {
-            self.scopes.limit_of(bucket_of(name))
+            self.scopes.limit_of(known_number(name))
         } else {
             self.frames.len()
         }
     }
 
-    // The same of a name that is known.
-    fn known_limit(&self, name: ElementName) -> usize
+    /// The same of any name.
+    pub(crate) fn name_limit(&self, name: &[u8]) -> usize
         ensures within { result ≤ length self.now.frames.items }
-        ensures skips { (n : List ℕ) → is_among element_names n ≡ true → name ≡ name_of n
-            → IsTrue (none_from (is_in_bucket (bucket_of n)) self.now result) }
+        ensures skips { IsTrue
+            (none_from (is_lowered (in_lower_case name.now)) self.now result) }
     {
-        if self.knows_all() {
-            self.scopes.limit_of(known_bucket(name))
-        } else {
-            self.frames.len()
+        let known = ElementName::of(name);
+        if known != ElementName::OTHER {
+            return self.known_limit(known);
+        }
+        if !self.knows_all() {
+            return self.frames.len();
+        }
+        match self.store.number(name) {
+            Ok(Some(number)) => self.scopes.limit_of(number),
+            Ok(None) => 0,
+            // Without memory to look it up a search begins with the innermost frame.
+            Err(_) => self.frames.len(),
         }
     }
 
@@ -81,12 +90,13 @@ impl<'a> FramePath<'a> {
         ensures within { result ≤ length self.now.frames.items }
         ensures skips { IsTrue (none_from (has_number number) self.now result) }
     {
-        match self.find(Mark { number, depth: 0 }) {
+        match self.find(number) {
             Some(place) => place + 1,
             None => 0,
         }
     }
 
+    #[inline(always)]
     fn tag_limit(&self, test: TagTest<'_>) -> usize
         ensures within { result ≤ length self.now.frames.items }
         ensures skips { IsTrue (none_from (has_tag (tag_test_of test.entry)) self.now result) }
@@ -105,6 +115,7 @@ impl<'a> FramePath<'a> {
     }
 
     /// From which place on no frame passes a test.
+    #[inline(always)]
     pub(crate) fn limit(&self, test: Test<'_>) -> usize
         ensures within { result ≤ length self.now.frames.items }
         ensures skips { IsTrue (none_from (test_of test.entry) self.now result) }

@@ -1,8 +1,19 @@
 //! Bytes compared in lower case.
 ghost use Rattle.std.specs.Char.{to_ascii_lowercase};
 ghost use Rattle.std.specs.List.{starts_with};
-ghost use Rattle.std.specs.Prelude.{map, ◌==◌, ◌≡◌};
+ghost use Rattle.std.specs.Prelude.{IfOk, map, ◌==◌, ◌≡◌};
 ghost use Rattle.std.specs.Str.{bytes_eq};
+
+use std::alloc::{AllocError, Global};
+
+/// Bytes in lower case.
+pub(crate) fn lowercase(alloc: Global, bytes: &[u8]) -> Result<Vec<u8>, AllocError>
+    ensures { IfOk result (λ lower. lower.items ≡ map to_ascii_lowercase bytes.now) }
+{
+    let mut lower = Vec::from_slice(alloc, bytes)?;
+    lower.make_ascii_lowercase();
+    Ok(lower)
+}
 
 /// Whether bytes are others when they are written in lower case.
 pub(crate) fn is_lowered(bytes: &[u8], lower: &[u8]) -> bool

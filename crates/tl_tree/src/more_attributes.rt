@@ -3,28 +3,53 @@ ghost use Rattle.std.specs.Prelude.{IfOk, IsTrue, OnOk, ◌<◌, ◌≡◌};
 ghost use Rattle.tl_dom_spec.specs.Builder.{add_attributes, with_more};
 ghost use Rattle.tl_dom_spec.specs.Head.{html_start};
 ghost use Rattle.tl_dom_spec.specs.Path.{at_number};
+ghost use Rattle.tl_dom_spec.specs.Tags.{has_attribute};
 ghost use Rattle.tl_tree.specs.Inner.Builders.{builder_of, token_of};
 ghost use Rattle.tl_tree.specs.Inner.Frames.{path_of};
 ghost use Rattle.tl_tree.specs.Inner.Merging.{IsLast, is_missing, missing};
+ghost use Rattle.tl_tree.specs.Inner.Said.{attributes_in};
 ghost use Rattle.tl_tree.specs.Inner.Stack.{retagged_by};
-ghost use Rattle.tl_tree.specs.Inner.Store.{Grows, is_attribute, is_tag, is_tag_number, tag_at, tag_of};
+ghost use Rattle.tl_tree.specs.Inner.Store.{Grows, bytes_of, is_attribute, is_span, is_tag, is_tag_number, list_in, tag_at, tag_of};
 
 use crate::alike::{attributes, is_named};
 use crate::builder::Builder;
 use crate::entries::{AttributeEntry, AttributeList, TagEntry};
 use crate::error::GrowError;
-use crate::frame::Mark;
 use crate::path::FramePath;
 use crate::said_attributes::{add_attributes, has_key};
+use crate::span::Span;
 use crate::store::Store;
 use std::alloc::Global;
 
-// Whether a tag has no attribute of this key.
+// Whether one of the attributes of a list has this key. The first place to look is the one that the
+// key had last.
+fn has_key_in(store: &Store<'_>, list: AttributeList, key: Span) -> bool
+    requires { IsTrue (is_span store.now key) }
+    ensures { result
+        ≡ has_attribute (bytes_of store.now key)
+        (attributes_in store.now (list_in store.now list)) }
+{
+    let own = store.bytes(key);
+    let Some(place) = store.attributes.place(list, own) else {
+        return false;
+    };
+    let entries = store.attributes.list(list);
+    if (place as usize) < entries.len() && store.bytes(entries[place as usize].key) == own {
+        return true;
+    }
+    has_key(store, entries, key)
+}
+
+// Whether a tag has no attribute of this key. Where its attributes are all that a list has, it is
+// looked up.
 fn is_missing(store: &Store<'_>, own: TagEntry, attribute: AttributeEntry) -> bool
     requires own { IsTrue (is_tag store.now own) }
     requires attribute { IsTrue (is_attribute store.now attribute) }
     ensures { result ≡ is_missing store.now own attribute }
 {
+    if own.first_attribute == 0 && own.attribute_count == store.attribute_count(own.list) {
+        return !has_key_in(store, own.list, attribute.key);
+    }
     !has_key(store, attributes(store, own), attribute.key)
 }
 
@@ -104,7 +129,7 @@ fn put_last(
 
 impl<'a> Store<'a> {
     /// A tag with the attributes of one, and those of another one that are missing. Answers its
-    /// number, which is that of the first where none is missing.
+    /// number, which is that of the first where none is missing of one that had more before.
     pub(crate) fn add_merged_tag(&mut self, own: u32, other: u32) -> Result<u32, GrowError>
         requires own { IsTrue (is_tag_number self.old own) }
         requires other { IsTrue (is_tag_number self.old other) }
@@ -120,12 +145,12 @@ impl<'a> Store<'a> {
         let tag = self.tag(own);
         let others = self.tag(other);
         let alloc = *self.tags.allocator();
-        let more = missing(self, alloc, tag, others)?;
-        if more.is_empty() {
-            return Ok(own);
-        }
         let list = list_of_more(self, own);
         let last = put_last(self, alloc, list, tag)?;
+        let more = missing(self, alloc, last, others)?;
+        if more.is_empty() && tag.list == list {
+            return Ok(own);
+        }
         add_attributes(self, list, more.as_slice())?;
         let attribute_count = self.attribute_count(list) - last.first_attribute;
         self.add_tag(TagEntry {
@@ -155,16 +180,16 @@ impl<'a> FramePath<'a> {
     }
 
     // The frame of a number has the attributes of a tag too, where they are missing.
-    fn add_attributes(&mut self, mark: Mark, other: u32) -> Result<(), GrowError>
+    fn add_attributes(&mut self, number: u32, other: u32) -> Result<(), GrowError>
         requires { IsTrue (is_tag_number self.old.store other) }
         ensures path { OnOk result (path_of self.new
-            ≡ at_number mark.number
+            ≡ at_number number
             (retagged_by (with_more (tag_at self.old.store other).attributes))
             (path_of self.old)) }
         ensures next { self.new.next ≡ self.old.next }
         ensures grows { Grows self.old.store self.new.store }
     {
-        let Some(index) = self.find(mark) else {
+        let Some(index) = self.find(number) else {
             return Ok(());
         };
         let own = self.frames[index].tag;
@@ -181,9 +206,8 @@ impl<'a> Builder<'a> {
             ≡ add_attributes number (token_of self.old).tag.attributes (builder_of self.old)) }
         ensures token { token_of self.new ≡ token_of self.old }
     {
-        let mark = Mark::new(number, number as usize);
         let tag = self.tag;
-        self.path.add_attributes(mark, tag)
+        self.path.add_attributes(number, tag)
     }
 
     /// A start tag of `html`, by the rules of "in body".

@@ -5,12 +5,15 @@ use crate::kind::Kind;
 use crate::row::Held;
 use crate::span::Span;
 use crate::tree::Tree;
+use tl_names::element_name::ElementName;
 
 impl<'p> Tree<'p> {
     ghost use Rattle.std.specs.Bool.{IsTrue};
     ghost use Rattle.std.specs.Option.{option_and_then, option_copied, option_map};
     ghost use Rattle.std.specs.Prelude.{length, ◌==◌, ◌≡◌, ◌↔◌};
+    ghost use Rattle.tl_names.specs.ElementNames.{name_of as element_name_of};
     ghost use Rattle.tl_tree.specs.Asked.{end_at, first_child_at, kind_of, name_of, namespace_of, next_sibling_at, node_at, parent_at, text_of};
+    ghost use Rattle.tl_tree.specs.Below.{ends_at, previous_sibling_at};
     ghost use Rattle.tl_tree.specs.Inner.RowView.{bytes_in};
     ghost use Rattle.tl_tree.specs.Inner.Store.{is_span, text_of as text_of_store};
     ghost use Rattle.tl_tree.specs.Rows.{IsInRange};
@@ -47,7 +50,10 @@ impl<'p> Tree<'p> {
             Held::Contents => Kind::Contents,
             Held::Text(_) => Kind::Text,
             Held::Comment(_) => Kind::Comment,
-            Held::Doctype(_) => Kind::Doctype,
+            Held::Doctype {
+                doctype: _,
+                source: _,
+            } => Kind::Doctype,
         })
     }
 
@@ -94,6 +100,36 @@ impl<'p> Tree<'p> {
         if end < outer { Some(end) } else { None }
     }
 
+    /// The number of the previous child of the same node, or of the previous node that stands in
+    /// none.
+    pub fn previous_sibling(&self, number: usize) -> Option<usize>
+        ensures { result ≡ previous_sibling_at (rows_in self.now) number }
+    {
+        self.end(number)?;
+        let last = number.checked_sub(1)?;
+        if !self.ends_at(last, number) {
+            return None;
+        }
+        let mut found = last;
+        for outer in self.ancestors(last) {
+            if !self.ends_at(outer, number) {
+                return Some(found);
+            }
+            found = outer;
+        }
+        Some(found)
+    }
+
+    // Whether a node ends at a number.
+    fn ends_at(&self, number: usize, end: usize) -> bool
+        ensures { result ≡ ends_at (rows_in self.now) number end }
+    {
+        match self.end(number) {
+            Some(own) => own == end,
+            None => false,
+        }
+    }
+
     /// Whether one node is below another: its child, or below one.
     pub fn is_below(&self, number: usize, outer: usize) -> bool
         ensures { IsTrue result ↔ IsInRange (rows_in self.now) outer number }
@@ -134,13 +170,25 @@ impl<'p> Tree<'p> {
         Some(self.bytes(self.store.tags[tag as usize].name))
     }
 
+    /// The number of the name of an element: of one name, one number.
+    #[inline]
+    pub fn element_name(&self, number: usize) -> Option<ElementName>
+        ensures { result ≡ option_map element_name_of
+            (option_and_then name_of (node_at (rows_in self.now) number)) }
+    {
+        let Held::Element(tag) = self.rows.get(number)?.held else {
+            return None;
+        };
+        Some(self.store.tag(tag).known)
+    }
+
     /// What a text or a comment says.
     pub fn text(&self, number: usize) -> Option<&[u8]>
         ensures { option_copied result
             ≡ option_and_then text_of (node_at (rows_in self.now) number) }
     {
         match self.rows.get(number)?.held {
-            Held::Text(span) | Held::Comment(span) => Some(self.bytes(span)),
+            Held::Text(piece) | Held::Comment(piece) => Some(self.bytes(piece.span)),
             _ => None,
         }
     }

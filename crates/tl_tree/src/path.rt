@@ -6,13 +6,13 @@
 //! out), and that what is known of them is so, is part of the type: no caller carries it.
 ghost use Rattle.std.specs.List.{list_all};
 ghost use Rattle.std.specs.Prelude.{IsTrue, drop, length, map, take, ◌<◌, ◌≡◌};
-ghost use Rattle.tl_tree.specs.Inner.Entered.{entered, entered_of};
+ghost use Rattle.tl_tree.specs.Inner.Entered.{entered, entered_of, role_at};
 ghost use Rattle.tl_tree.specs.Inner.Framed.{are_distinct, frame_is_within, is_before, is_here};
 
 use crate::cell::Node;
 use crate::entries::{AttributeList, Namespace, TagEntry};
 use crate::error::GrowError;
-use crate::frame::{Frame, Mark, Place};
+use crate::frame::{Frame, Place};
 use crate::head::{at_head, is_plain};
 use crate::names::Names;
 use crate::role::{Entered, Role, role_of};
@@ -54,7 +54,6 @@ impl<'a> FramePath<'a> {
     ghost use Rattle.tl_dom_spec.specs.Path as dom;
     ghost use Rattle.tl_tree.specs.Inner.Framed.{is_numbered, numbers};
     ghost use Rattle.tl_tree.specs.Inner.Frames.{changed, children_of, closed, fostered, frame_of, frames_of, is_frame, path_of, place_of, sought, test_of, test_or_other, with_late};
-    ghost use Rattle.tl_tree.specs.Inner.Roles.{role_of};
     ghost use Rattle.tl_tree.specs.Inner.Tests.{tag_test_of};
     ghost use Rattle.tl_tree.specs.Inner.Store.{Grows, is_node, is_row, is_tag_number, node_of, nodes_of, tag_at};
 
@@ -69,6 +68,7 @@ impl<'a> FramePath<'a> {
             space: Namespace::Html,
             name: Span { start: 0, len: 0 },
             known: ElementName::OTHER,
+            number: 0,
             list: AttributeList::Tags,
             first_attribute: 0,
             attribute_count: 0,
@@ -88,7 +88,7 @@ impl<'a> FramePath<'a> {
             store,
             frames,
             next: 1,
-            scopes: Scopes::new(alloc)?,
+            scopes: Scopes::new(alloc),
             placed: 0,
         })
     }
@@ -127,18 +127,18 @@ impl<'a> FramePath<'a> {
         requires within { IsTrue (is_frame self.old frame) }
         requires number { frame.number
             ≡ (slice_index_or self.old.frames.items index frame).number }
-        requires role { role_of (tag_at self.old.store frame.tag)
-            ≡ role_of (tag_at self.old.store
-            (slice_index_or self.old.frames.items index frame).tag) }
+        requires role { role_at self.old.store frame.tag
+            ≡ role_at self.old.store (slice_index_or self.old.frames.items index frame).tag }
         ensures frames { self.new.frames.items ≡ slice_set self.old.frames.items index frame }
         ensures store { self.new.store ≡ self.old.store }
         ensures next { self.new.next ≡ self.old.next }
     {
-        self.placed = frame.place.placed_with(self.placed, index);
         self.frames[index] = frame;
+        self.placed = frame.place.placed_with(self.placed, index);
     }
 
     // A frame whose late nodes stand in the `head` among its children.
+    #[inline(always)]
     pub(crate) fn folded(&mut self, frame: Frame) -> Result<Frame, GrowError>
         requires { IsTrue (is_frame self.old frame) }
         ensures stands { IfOk result (λ new.
@@ -158,6 +158,8 @@ impl<'a> FramePath<'a> {
     }
 
     // The same of a frame that has late nodes.
+    #[cold]
+    #[inline(never)]
     fn fold(&mut self, frame: Frame) -> Result<Frame, GrowError>
         requires { IsTrue (is_frame self.old frame) }
         ensures stands { IfOk result (λ new.
@@ -179,6 +181,7 @@ impl<'a> FramePath<'a> {
     }
 
     // A frame, as it is where a node goes behind its children.
+    #[inline(always)]
     fn ready(&mut self, frame: Frame, node: Node) -> Result<Frame, GrowError>
         requires frame { IsTrue (is_frame self.old frame) }
         requires node { IsTrue (is_node self.old.store node) }
@@ -204,8 +207,10 @@ impl<'a> FramePath<'a> {
         self.fold(frame)
     }
 
-    // A node goes to the end of a frame.
-    pub(crate) fn put_inside(&mut self, index: usize, node: Node) -> Result<(), GrowError>
+    // A node goes to the end of a frame that has late nodes.
+    #[cold]
+    #[inline(never)]
+    fn put_behind_late(&mut self, index: usize, node: Node) -> Result<(), GrowError>
         requires index { index < length self.old.frames.items }
         requires node { IsTrue (is_node self.old.store node) }
         ensures ok { OnOk result (frames_of self.new
@@ -217,6 +222,28 @@ impl<'a> FramePath<'a> {
         let frame = self.frames[index];
         let frame = self.ready(frame, node)?;
         let children = self.add(frame.children, node)?;
+        self.write(index, Frame { children, ..frame });
+        Ok(())
+    }
+
+    // A node goes to the end of a frame.
+    #[inline(always)]
+    pub(crate) fn put_inside(&mut self, index: usize, node: Node) -> Result<(), GrowError>
+        requires index { index < length self.old.frames.items }
+        requires node { IsTrue (is_node self.old.store node) }
+        ensures ok { OnOk result (frames_of self.new
+            ≡ changed index (with_nodes (node_of self.old.store node)) (frames_of self.old)) }
+        ensures len { length self.new.frames.items ≡ length self.old.frames.items }
+        ensures next { self.new.next ≡ self.old.next }
+        ensures grows { Grows self.old.store self.new.store }
+    {
+        let before = self.frames[index];
+        if before.late != 0 {
+            return self.put_behind_late(index, node);
+        }
+        let children = self.add(before.children, node)?;
+        // What is read here, and not before, is written back at no cost where it is the same.
+        let frame = self.frames[index];
         self.write(index, Frame { children, ..frame });
         Ok(())
     }
@@ -254,6 +281,7 @@ impl<'a> FramePath<'a> {
     }
 
     // What waited in a frame stands behind its children.
+    #[inline(always)]
     pub(crate) fn catch_up(&mut self, index: usize) -> Result<(), GrowError>
         requires index { index < length self.old.frames.items }
         ensures ok { OnOk result
@@ -269,6 +297,8 @@ impl<'a> FramePath<'a> {
     }
 
     // The same of a frame in which something waited.
+    #[cold]
+    #[inline(never)]
     fn join_waiting(&mut self, index: usize) -> Result<(), GrowError>
         requires index { index < length self.old.frames.items }
         ensures ok { OnOk result
@@ -293,17 +323,17 @@ impl<'a> FramePath<'a> {
 
     /// The place of the frame of a number, which is known, or else looked for among those that
     /// aren't.
-    pub(crate) fn find(&self, mark: Mark) -> Option<usize>
+    pub(crate) fn find(&self, number: u32) -> Option<usize>
         ensures some { IfSome result
-            (λ index. slice_get (numbers self.now.frames.items) index ≡ Some mark.number) }
+            (λ index. slice_get (numbers self.now.frames.items) index ≡ Some number) }
         ensures none { result ≡ None
-            → list_any (is_numbered mark.number) self.now.frames.items ≡ false }
+            → list_any (is_numbered number) self.now.frames.items ≡ false }
     {
-        if let Some(index) = self.scopes.place_of(mark.number) {
+        if let Some(index) = self.scopes.place_of(number) {
             return Some(index);
         }
         for index in self.scopes.len()..self.frames.len() {
-            if self.frames[index].number == mark.number {
+            if self.frames[index].number == number {
                 return Some(index);
             }
         }
@@ -311,6 +341,7 @@ impl<'a> FramePath<'a> {
     }
 
     // A node goes to the end of the current node, behind what waited there.
+    #[inline(always)]
     fn put_on_top(&mut self, node: Node) -> Result<(), GrowError>
         requires { IsTrue (is_node self.old.store node) }
         ensures ok { OnOk result (path_of self.new
@@ -324,34 +355,40 @@ impl<'a> FramePath<'a> {
     }
 
     // A node goes to the end of the frame of a number.
-    fn put_into(&mut self, mark: Mark, node: Node) -> Result<(), GrowError>
+    #[cold]
+    #[inline(never)]
+    fn put_into(&mut self, number: u32, node: Node) -> Result<(), GrowError>
         requires { IsTrue (is_node self.old.store node) }
         ensures ok { OnOk result (path_of self.new
-            ≡ put (into mark.number) (node_of self.old.store node) (path_of self.old)) }
+            ≡ put (into number) (node_of self.old.store node) (path_of self.old)) }
         ensures next { self.new.next ≡ self.old.next }
         ensures grows { Grows self.old.store self.new.store }
     {
-        match self.find(mark) {
+        match self.find(number) {
             Some(index) => self.put_inside(index, node),
             None => Ok(()),
         }
     }
 
     // A node goes behind the open child of the frame of a number.
-    fn put_behind(&mut self, mark: Mark, node: Node) -> Result<(), GrowError>
+    #[cold]
+    #[inline(never)]
+    fn put_behind(&mut self, number: u32, node: Node) -> Result<(), GrowError>
         requires { IsTrue (is_node self.old.store node) }
         ensures ok { OnOk result (path_of self.new
-            ≡ put (behind mark.number) (node_of self.old.store node) (path_of self.old)) }
+            ≡ put (behind number) (node_of self.old.store node) (path_of self.old)) }
         ensures next { self.new.next ≡ self.old.next }
         ensures grows { Grows self.old.store self.new.store }
     {
-        match self.find(mark) {
+        match self.find(number) {
             Some(index) => self.put_waiting(index, node),
             None => Ok(()),
         }
     }
 
     // A node goes to the end of the `head` in the current node.
+    #[cold]
+    #[inline(never)]
     fn put_late(&mut self, node: Node) -> Result<(), GrowError>
         requires { IsTrue (is_node self.old.store node) }
         ensures ok { OnOk result (path_of self.new
@@ -364,6 +401,7 @@ impl<'a> FramePath<'a> {
     }
 
     /// A node is put at a place.
+    #[inline(always)]
     pub(crate) fn put(&mut self, place: Place, node: Node) -> Result<(), GrowError>
         requires { IsTrue (is_node self.old.store node) }
         ensures ok { OnOk result (path_of self.new
@@ -373,13 +411,14 @@ impl<'a> FramePath<'a> {
     {
         match place {
             Place::Here => self.put_on_top(node),
-            Place::Into(mark) => self.put_into(mark, node),
-            Place::Behind(mark) => self.put_behind(mark, node),
+            Place::Into(number) => self.put_into(number, node),
+            Place::Behind(number) => self.put_behind(number, node),
             Place::IntoHead => self.put_late(node),
         }
     }
 
     // An element that is settled goes to the end of what is next, and what waited there follows.
+    #[inline(always)]
     fn settle_on_top(&mut self, node: Node) -> Result<(), GrowError>
         requires { IsTrue (is_node self.old.store node) }
         ensures ok { OnOk result (path_of self.new
@@ -393,6 +432,7 @@ impl<'a> FramePath<'a> {
     }
 
     // An element that is settled goes to its place.
+    #[inline(always)]
     fn settle_at(&mut self, place: Place, node: Node) -> Result<(), GrowError>
         requires { IsTrue (is_node self.old.store node) }
         ensures ok { OnOk result (path_of self.new
@@ -402,13 +442,14 @@ impl<'a> FramePath<'a> {
     {
         match place {
             Place::Here => self.settle_on_top(node),
-            Place::Into(mark) => self.put_into(mark, node),
-            Place::Behind(mark) => self.put_behind(mark, node),
+            Place::Into(number) => self.put_into(number, node),
+            Place::Behind(number) => self.put_behind(number, node),
             Place::IntoHead => self.put_late(node),
         }
     }
 
     // The innermost frame is taken off the path.
+    #[inline(always)]
     pub(crate) fn take_top(&mut self) -> Frame
         requires { 1 < length self.old.frames.items }
         ensures path { path_of self.old ≡ frame_of self.old.store result ∷ path_of self.new }
@@ -427,6 +468,7 @@ impl<'a> FramePath<'a> {
     }
 
     // The children of a frame, with what waited behind them, as an element.
+    #[inline(always)]
     pub(crate) fn element(&mut self, frame: Frame) -> Result<Node, GrowError>
         requires { IsTrue (is_frame self.old frame) }
         ensures stands { IfOk result (λ node. node_of self.new.store node
@@ -451,6 +493,7 @@ impl<'a> FramePath<'a> {
     }
 
     /// The innermost frame is settled; the document stays.
+    #[inline(always)]
     pub(crate) fn settle_top(&mut self) -> Result<(), GrowError>
         ensures ok { OnOk result (path_of self.new ≡ top_settled (path_of self.old)) }
         ensures next { self.new.next ≡ self.old.next }
@@ -466,6 +509,7 @@ impl<'a> FramePath<'a> {
 
     // Whether the innermost frame is settled, where those are that pass a test, or all others. The
     // document is not.
+    #[inline(always)]
     fn is_settled(&self, test: Test<'_>, is_other: bool) -> bool
         ensures yes { result ≡ true
             → popped_while (test_or_other is_other test.entry) (path_of self.now)
@@ -487,6 +531,7 @@ impl<'a> FramePath<'a> {
     }
 
     /// Frames are settled while they pass a test, or while they don't.
+    #[inline(always)]
     pub(crate) fn settle_while(&mut self, test: Test<'_>, is_other: bool) -> Result<(), GrowError>
         ensures ok { OnOk result (path_of self.new
             ≡ popped_while (test_or_other is_other test.entry) (path_of self.old)) }
@@ -558,42 +603,41 @@ impl<'a> FramePath<'a> {
     }
 
     // The frame of a number leaves the stack.
-    fn leave(&mut self, mark: Mark)
-        ensures path { path_of self.new ≡ at_number mark.number closed (path_of self.old) }
+    fn leave(&mut self, number: u32)
+        ensures path { path_of self.new ≡ at_number number closed (path_of self.old) }
         ensures store { self.new.store ≡ self.old.store }
         ensures next { self.new.next ≡ self.old.next }
     {
-        match self.find(mark) {
+        match self.find(number) {
             Some(index) => self.close(index),
             None => {}
         }
     }
 
     /// An element leaves the stack, from between others too.
-    pub(crate) fn take_out(&mut self, mark: Mark) -> Result<(), GrowError>
-        ensures ok { OnOk result (path_of self.new ≡ taken_out mark.number (path_of self.old)) }
+    pub(crate) fn take_out(&mut self, number: u32) -> Result<(), GrowError>
+        ensures ok { OnOk result (path_of self.new ≡ taken_out number (path_of self.old)) }
         ensures next { self.new.next ≡ self.old.next }
         ensures grows { Grows self.old.store self.new.store }
     {
-        self.leave(mark);
+        self.leave(number);
         self.settle_while(Test::Nothing, false)
     }
 
     // What elements of a tag are to searches.
     pub(crate) fn role_at(&self, tag: u32) -> Role
         requires { IsTrue (is_tag_number self.now.store tag) }
-        ensures stands { result ≡ role_of (tag_at self.now.store tag) }
-        ensures within { result.bucket < 4093 }
+        ensures { result ≡ role_at self.now.store tag }
     {
-        role_of(&self.store, self.store.tag(tag))
+        role_of(self.store.tag(tag))
     }
 
     // What a frame is to searches.
+    #[inline(always)]
     fn entered_at(&self, index: usize) -> Entered
         requires { index < length self.now.frames.items }
-        ensures stands { slice_get (map (entered_of self.now.store) self.now.frames.items) index
+        ensures { slice_get (map (entered_of self.now.store) self.now.frames.items) index
             ≡ Some result }
-        ensures within { result.role.bucket < 4093 }
     {
         let frame = self.frames[index];
         Entered {
@@ -603,6 +647,7 @@ impl<'a> FramePath<'a> {
     }
 
     /// All frames are known where the path is searched.
+    #[inline(always)]
     pub(crate) fn enter_frames(&mut self) -> Result<(), GrowError>
         ensures frames { self.new.frames.items ≡ self.old.frames.items }
         ensures store { self.new.store ≡ self.old.store }
@@ -616,6 +661,7 @@ impl<'a> FramePath<'a> {
     }
 
     // A new element stands on the path.
+    #[inline(always)]
     fn push(&mut self, place: Place, tag: u32) -> Result<(), GrowError>
         requires { IsTrue (is_tag_number self.old.store tag) }
         ensures ok { OnOk result (path_of self.new
@@ -644,6 +690,7 @@ impl<'a> FramePath<'a> {
     }
 
     // A new element stands on the path, behind what waited in the current node.
+    #[inline(always)]
     fn push_on_top(&mut self, tag: u32) -> Result<(), GrowError>
         requires { IsTrue (is_tag_number self.old.store tag) }
         ensures ok { OnOk result (path_of self.new
@@ -659,6 +706,7 @@ impl<'a> FramePath<'a> {
     }
 
     /// An element is inserted at a place, and is the current node then.
+    #[inline(always)]
     pub(crate) fn insert_element(&mut self, place: Place, tag: u32) -> Result<(), GrowError>
         requires { IsTrue (is_tag_number self.old.store tag) }
         ensures ok { OnOk result (path_of self.new
@@ -714,6 +762,7 @@ impl<'a> FramePath<'a> {
     }
 
     // What a search says at a frame, where it passes the test or bounds the search.
+    #[inline(always)]
     fn answer_at(&self, index: usize, test: Test<'_>, bounds: Test<'_>) -> Option<bool>
         requires { index < length self.now.frames.items }
         ensures some { IfSome result
@@ -737,10 +786,14 @@ impl<'a> FramePath<'a> {
     }
 
     /// Whether an element of the stack passes a test, before one that bounds the search.
+    #[inline(always)]
     pub(crate) fn is_within(&self, test: Test<'_>, bounds: Test<'_>) -> bool
         ensures { result
             ≡ within (test_of test.entry) (test_of bounds.entry) (elements (path_of self.now)) }
     {
+        if let Some(found) = self.answer_at(self.frames.len() - 1, test, bounds) {
+            return found;
+        }
         let first = self.limit(test);
         if first == 0 {
             return false;
@@ -756,20 +809,16 @@ impl<'a> FramePath<'a> {
         false
     }
 
-    // The frame around the one at a place; around the outermost none is.
-    fn mark_around(&self, index: usize) -> Mark
+    // The number of the frame around the one at a place; around the outermost none is.
+    fn number_around(&self, index: usize) -> u32
         requires { index < length self.now.frames.items }
-        ensures { result.number ≡ (top (reverse (take index (frames_of self.now)))).number }
+        ensures { result ≡ (top (reverse (take index (frames_of self.now)))).number }
     {
         if index == 0 {
-            return Mark {
-                number: 0,
-                depth: 0,
-            };
+            return 0;
         }
-        let outer = index - 1;
-        let frame = self.frames[outer];
-        Mark::new(frame.number, outer)
+        let frame = self.frames[index - 1];
+        frame.number
     }
 
     // The place of an element, with the frame around it.
@@ -779,9 +828,9 @@ impl<'a> FramePath<'a> {
             ≡ dom.place_of (place_of place) (reverse (take index (frames_of self.now))) }
     {
         match place {
-            Place::Here => Place::Into(self.mark_around(index)),
-            Place::Into(mark) => Place::Into(mark),
-            Place::Behind(mark) => Place::Behind(mark),
+            Place::Here => Place::Into(self.number_around(index)),
+            Place::Into(number) => Place::Into(number),
+            Place::Behind(number) => Place::Behind(number),
             Place::IntoHead => Place::IntoHead,
         }
     }
@@ -800,7 +849,7 @@ impl<'a> FramePath<'a> {
         }
         let template = Test::Tag(TagTest::Any(Names::Template));
         if template.passes(&self.store, frame) {
-            return Some(Place::Behind(Mark::new(frame.number, index)));
+            return Some(Place::Behind(frame.number));
         }
         let table = Test::Tag(TagTest::Any(Names::Table));
         if table.passes(&self.store, frame) {
@@ -810,6 +859,8 @@ impl<'a> FramePath<'a> {
     }
 
     /// Where a node is foster parented: in a template, before a table, or in the `html` element.
+    #[cold]
+    #[inline(never)]
     pub(crate) fn foster_place(&self) -> Place
         ensures { place_of result ≡ foster_place (path_of self.now) }
     {
@@ -821,10 +872,11 @@ impl<'a> FramePath<'a> {
                 None => {}
             }
         }
-        Place::Behind(Mark::new(1, 1))
+        Place::Behind(1)
     }
 
     /// Where a node goes: here, or where it is foster parented.
+    #[inline(always)]
     pub(crate) fn place_in(&self, is_fostering: bool) -> Place
         ensures { place_of result ≡ place_in is_fostering (path_of self.now) }
     {

@@ -5,11 +5,10 @@ use crate::builder::{Builder, Flags};
 use crate::context::Context;
 use crate::entries::AttributeEntry;
 use crate::error::{GrowError, ReadError};
-use crate::source::keep_source;
-use crate::span::Span;
+use crate::source::{Bounds, keep_source, push_source};
 use crate::token::Token;
-use std::alloc::Global;
-use tl_html_parts::with_feeds;
+use std::alloc::{AllocError, Global};
+use tl_html_parts::{AttributePlace, TagFront, front_parts, next_tag, with_feeds};
 use tl_html_tokens::{Front, Mode, Section, TokenKind, mark_len, next_section, next_token};
 
 /// How far a page is read, and what is built of it.
@@ -20,8 +19,8 @@ pub(crate) struct Reader<'p> {
     pub(crate) at: usize,
     /// How the tokenizer goes on there.
     pub(crate) mode: Mode,
-    /// Where the start tags stand that were taken.
-    pub(crate) sources: Vec<Span>,
+    /// Where the page begins, and where the marks stand that were taken.
+    pub(crate) sources: Vec<Bounds>,
     /// Room for the attributes of a tag.
     pub(crate) room: Vec<AttributeEntry>,
     pub(crate) alloc: Global,
@@ -73,6 +72,7 @@ impl<'a> Builder<'a> {
         &mut self,
         alloc: Global,
         room: &mut Vec<AttributeEntry>,
+        places: &mut Vec<AttributePlace>,
         mode: Mode,
         start: usize,
         front: Front,
@@ -87,8 +87,14 @@ impl<'a> Builder<'a> {
         let page = self.path.store.page;
         match front.kind {
             TokenKind::Text => self.take_text(alloc, mode, start, front.end),
-            TokenKind::StartTag => self.take_start_tag(alloc, room, start, front.end),
-            TokenKind::EndTag => self.take_end_tag(alloc, &page[start..front.end]),
+            TokenKind::StartTag => {
+                let tag = front_parts(page, start, front, places)?;
+                self.take_start_tag(alloc, room, places.as_slice(), tag)
+            }
+            TokenKind::EndTag => {
+                let tag = front_parts(page, start, front, places)?;
+                self.take_end_tag(alloc, tag.name)
+            }
             TokenKind::Comment => self.take_comment(alloc, start, front.end),
             TokenKind::Doctype => self.take_doctype(alloc, start, front.end),
             TokenKind::Nothing => Ok(()),
@@ -96,8 +102,28 @@ impl<'a> Builder<'a> {
     }
 }
 
+ghost use Rattle.std.specs.Prelude.{IfOk, IfSome};
+ghost use Rattle.tl_html_parts.specs.Fronts.{IsTagRead};
+
+// The tag that stands in front at a place of a page, where markup is read.
+fn tag_in_front(
+    page: &[u8],
+    at: usize,
+    mode: Mode,
+    places: &mut Vec<AttributePlace>,
+) -> Result<Option<TagFront>, AllocError>
+    ensures mode { IfOk result (λ found. IfSome found (λ tag. mode ≡ Mode.Data)) }
+    ensures read { IfOk result
+        (λ found. IfSome found (IsTagRead page.now at places.new.items)) }
+{
+    let Mode::Data = mode else {
+        return Ok(None);
+    };
+    next_tag(page, at, places)
+}
+
 impl<'p> Reader<'p> {
-    ghost use Rattle.std.specs.Prelude.{Err, IfOk, IfSome, None, OnOk, ◌+◌, ◌<◌, false, true, ℕ};
+    ghost use Rattle.std.specs.Prelude.{Err, None, OnOk, ◌+◌, ◌<◌, false, true, ℕ};
     ghost use Rattle.tl_dom_spec.specs.Builder.{end_of_file};
     ghost use Rattle.tl_dom_spec.specs.Dispatcher.{token_done};
     ghost use Rattle.tl_dom_spec.specs.Driver.{builder};
@@ -120,11 +146,13 @@ impl<'p> Reader<'p> {
         ensures page { IfOk result (λ reader. reader.page.now ≡ page.now) }
     {
         let builder = Builder::new(alloc, page, flags)?;
-        let sources = Vec::new(alloc);
+        let at = mark_len(page);
+        let mut sources = Vec::with_capacity(alloc, page.len() / 16)?;
+        push_source(&mut sources, 0, at)?;
         Ok(Reader {
             builder,
             page,
-            at: mark_len(page),
+            at,
             mode: Mode::Data,
             sources,
             room: Vec::new(alloc),
@@ -146,7 +174,8 @@ impl<'p> Reader<'p> {
         ensures page { IfOk result (λ reader. reader.page.now ≡ text.now) }
     {
         let builder = Builder::for_fragment(alloc, text, context, flags)?;
-        let sources = Vec::new(alloc);
+        let mut sources = Vec::new(alloc);
+        push_source(&mut sources, 0, 0)?;
         Ok(Reader {
             builder,
             page: text,
@@ -173,6 +202,10 @@ impl<'p> Reader<'p> {
             self.now.mode ≡ false }
     {
         let Mode::Data = self.mode else {
+            return None;
+        };
+        // This tells most tokens, without a look at the builder.
+        let [b'<', b'!', ..] = &self.page[self.at..] else {
             return None;
         };
         if !self.builder.is_foreign() {
@@ -203,7 +236,11 @@ impl<'p> Reader<'p> {
     }
 
     // Takes what stands in front here.
-    fn take_token(&mut self, front: Front) -> Result<(), GrowError>
+    fn take_token(
+        &mut self,
+        places: &mut Vec<AttributePlace>,
+        front: Front,
+    ) -> Result<(), GrowError>
         requires front { IsFront self.old.page.now self.old.at self.old.mode front }
         requires open { opens_section builder (builder_of self.old.builder) self.old.page.now
             self.old.at self.old.mode ≡ false }
@@ -215,15 +252,39 @@ impl<'p> Reader<'p> {
     {
         let start = self.at;
         keep_source(&mut self.sources, start, front)?;
+        self.builder.take_front(self.alloc, &mut self.room, places, self.mode, start, front)?;
+        self.mode = self.builder.mode_behind(front);
+        self.at = front.end;
+        Ok(())
+    }
+
+    // Takes a tag that stands in front here.
+    fn take_tag(&mut self, places: &[AttributePlace], tag: TagFront) -> Result<(), GrowError>
+        requires read { IsTagRead self.old.page.now self.old.at places.now tag }
+        requires mode { self.old.mode ≡ Mode.Data }
+        requires open { opens_section builder (builder_of self.old.builder) self.old.page.now
+            self.old.at self.old.mode ≡ false }
+        ensures ok { OnOk result (left_of self.new ≡ left_of self.old) }
+        ensures sources { OnOk result
+            ((begin : Reached) → IsSourced begin self.old → IsSourced begin self.new) }
+        ensures further { OnOk result (self.old.at < self.new.at) }
+        ensures page { self.new.page.now ≡ self.old.page.now }
+    {
+        let front = Front {
+            kind: tag.kind,
+            end: tag.end,
+            mode: Mode::Data,
+        };
+        keep_source(&mut self.sources, self.at, front)?;
         self.builder
-            .take_front(self.alloc, &mut self.room, self.mode, start, front)?;
+            .take_tag(self.alloc, &mut self.room, self.at, places, tag)?;
         self.mode = self.builder.mode_behind(front);
         self.at = front.end;
         Ok(())
     }
 
     // Takes what stands here.
-    fn take_next(&mut self) -> Result<(), GrowError>
+    fn take_next(&mut self, places: &mut Vec<AttributePlace>) -> Result<(), GrowError>
         requires { self.old.at < length self.old.page.now }
         ensures ok { OnOk result (left_of self.new ≡ left_of self.old) }
         ensures sources { OnOk result
@@ -234,10 +295,13 @@ impl<'p> Reader<'p> {
         if let Some(section) = self.section() {
             return self.take_section(section);
         }
+        if let Some(tag) = tag_in_front(self.page, self.at, self.mode, places)? {
+            return self.take_tag(places.as_slice(), tag);
+        }
         let Some(front) = next_token(self.page, self.at, self.mode) else {
             return Ok(());
         };
-        self.take_token(front)
+        self.take_token(places, front)
     }
 
     // Refuses a tree that is out of proportion to the page so far.
@@ -262,8 +326,10 @@ impl<'p> Reader<'p> {
         ensures large { (at : ℕ) → result ≡ Err (ReadError.OutOfProportion at) →
             is_little (token_done (left_of self.old) end_of_file).excess ≡ false }
     {
+        // Room for where the attributes of a tag stand.
+        let mut places = Vec::new(self.alloc);
         while self.at < self.page.len() {
-            self.take_next()?;
+            self.take_next(&mut places)?;
             if !self.builder.is_little() {
                 return Err(ReadError::OutOfProportion { at: self.at });
             }
@@ -276,8 +342,9 @@ impl<'p> Reader<'p> {
         ensures ok { OnOk result
             (builder_of self.new.builder ≡ token_done (left_of self.old) end_of_file) }
         ensures sources { OnOk result ((begin : Reached) → IsSourced begin self.old →
-            AreSources self.old.page.now begin self.new.sources.items
-            (builder_of self.new.builder).starts) }
+            AreSources self.old.page.now begin (builder_of self.new.builder)
+            self.new.sources.items) }
+        ensures page { self.new.page.now ≡ self.old.page.now }
         ensures little { OnOk result
             (is_little (token_done (left_of self.old) end_of_file).excess ≡ true) }
         ensures large { (at : ℕ) → result ≡ Err (ReadError.OutOfProportion at) →

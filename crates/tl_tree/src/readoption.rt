@@ -17,25 +17,17 @@ ghost use Rattle.tl_tree.specs.Inner.Store.{Grows, is_tag_number, tag_at};
 ghost use Rattle.tl_tree.specs.Inner.Tests.{tag_test_of};
 
 use crate::error::GrowError;
-use crate::frame::{Frame, Mark, Place};
+use crate::frame::{Frame, Place};
 use crate::path::FramePath;
 use crate::role::Entered;
 use crate::scopes::Scopes;
 use crate::test::{TagTest, Test};
 
-impl Mark {
-    // What went into the block goes into the new element.
-    fn moved(self, block: u32, new: u32) -> Mark
-        ensures { result.number ≡ (if self.number == block then new else self.number) }
-    {
-        if self.number == block {
-            return Mark {
-                number: new,
-                depth: self.depth,
-            };
-        }
-        self
-    }
+// What went into the block goes into the new element.
+fn moved(number: u32, block: u32, new: u32) -> u32
+    ensures { result ≡ (if number == block then new else number) }
+{
+    if number == block { new } else { number }
 }
 
 impl Place {
@@ -44,8 +36,8 @@ impl Place {
     {
         match self {
             Place::Here => Place::Here,
-            Place::Into(mark) => Place::Into(mark.moved(block, new)),
-            Place::Behind(mark) => Place::Behind(mark.moved(block, new)),
+            Place::Into(number) => Place::Into(moved(number, block, new)),
+            Place::Behind(number) => Place::Behind(moved(number, block, new)),
             Place::IntoHead => Place::IntoHead,
         }
     }
@@ -94,7 +86,6 @@ impl Scopes {
     // The element at a place leaves, where the one inside of it may not be known.
     fn turn_known(&mut self, place: usize, new: Entered)
         requires small { place + 1 < 2 ^ 64 }
-        requires bucket { new.role.bucket < 4093 }
         requires new { list_any (is_numbered new.number) (entered self.old) ≡ false }
         ensures { entered self.new
             ≡ take (length (entered self.new)) (turned place new (entered self.old)) }
@@ -145,7 +136,7 @@ impl<'a> FramePath<'a> {
         ensures within { IfSome result
             (λ index. (0 < index) × (index < length self.now.frames.items)) }
     {
-        let Some(place) = self.find(Mark { number, depth: 0 }) else {
+        let Some(place) = self.find(number) else {
             return None;
         };
         if !self.frames[place].is_open {
@@ -174,7 +165,7 @@ impl<'a> FramePath<'a> {
     pub(crate) fn common_ancestor(&self, number: u32) -> Option<u32>
         ensures { result ≡ number_of (first (elements (outside_of number (path_of self.now)))) }
     {
-        match self.find(Mark { number, depth: 0 }) {
+        match self.find(number) {
             Some(place) => self.element_outside(place),
             None => None,
         }

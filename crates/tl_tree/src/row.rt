@@ -1,16 +1,16 @@
 //! Rows: the nodes of a tree in the order of the page.
 
-use crate::span::Span;
+use crate::span::Piece;
 
-/// What a row has of its own. Tags and doctypes are numbers.
+/// What a row has of its own. Tags and doctypes are numbers, and `source` is one of marks.
 #[derive(Clone, Copy)]
 pub(crate) enum Held {
     Element(u32),
     /// The contents of a `template`, which is the row before.
     Contents,
-    Text(Span),
-    Comment(Span),
-    Doctype(u32),
+    Text(Piece),
+    Comment(Piece),
+    Doctype { doctype: u32, source: u32 },
 }
 
 /// A node, what it stands in and where it ends.
@@ -23,4 +23,4 @@ pub(crate) struct Row {
     pub(crate) end: u32,
 }
 
-const _: () = prove!(size_of::<Row>() == 20);
+const _: () = prove!(size_of::<Row>() == 24);

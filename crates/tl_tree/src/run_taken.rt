@@ -18,6 +18,7 @@ use crate::token::Token;
 
 impl<'a> Builder<'a> {
     // Bytes are inserted, where there are some.
+    #[inline(always)]
     fn insert_text(&mut self, text: Span) -> Result<(), GrowError>
         requires { IsTrue (is_span self.old.path.store text) }
         ensures ok { OnOk result (builder_of self.new
@@ -84,6 +85,7 @@ impl<'a> Builder<'a> {
     }
 
     // What goes in of a run, by the rules of a mode.
+    #[inline(always)]
     fn html_run(&mut self, mode: Mode, text: Span) -> Result<(), GrowError>
         requires { IsTrue (is_span self.old.path.store text) }
         ensures ok { OnOk result (builder_of self.new
@@ -98,6 +100,8 @@ impl<'a> Builder<'a> {
     }
 
     // Those of some bytes that go in by the rules of a mode.
+    #[cold]
+    #[inline(never)]
     fn add_kept(&mut self, mode: Mode, text: Span) -> Result<Span, GrowError>
         requires { IsTrue (is_span self.old.path.store text) }
         ensures ok { builder_of self.new ≡ builder_of self.old }
@@ -112,6 +116,7 @@ impl<'a> Builder<'a> {
     }
 
     // The same, which are these bytes where all go in.
+    #[inline(always)]
     fn kept_text(&mut self, mode: Mode, text: Span) -> Result<Span, GrowError>
         requires { IsTrue (is_span self.old.path.store text) }
         ensures ok { builder_of self.new ≡ builder_of self.old }
@@ -127,6 +132,8 @@ impl<'a> Builder<'a> {
     }
 
     // Some bytes, with U+FFFD for each NUL.
+    #[cold]
+    #[inline(never)]
     fn add_replaced(&mut self, text: Span) -> Result<Span, GrowError>
         requires { IsTrue (is_span self.old.path.store text) }
         ensures ok { builder_of self.new ≡ builder_of self.old }
@@ -156,6 +163,7 @@ impl<'a> Builder<'a> {
     }
 
     /// Takes a run in HTML content, of which no token is counted.
+    #[inline(always)]
     pub(crate) fn run_in_html(&mut self, text: Span) -> Result<(), GrowError>
         requires { IsTrue (is_span self.old.path.store text) }
         ensures ok { OnOk result (builder_of self.new
@@ -170,6 +178,8 @@ impl<'a> Builder<'a> {
     }
 
     // In foreign content.
+    #[cold]
+    #[inline(never)]
     fn run_in_foreign(&mut self, text: Span) -> Result<(), GrowError>
         requires { IsTrue (is_span self.old.path.store text) }
         ensures ok { OnOk result (builder_of self.new

@@ -94,6 +94,8 @@ impl<'a> Builder<'a> {
     }
 
     // Takes a run, or a line feed that is ignored.
+    #[cold]
+    #[inline(never)]
     fn take_part(&mut self) -> Result<(), GrowError>
         requires { 0 < length (token_of self.old).text }
         ensures ok { OnOk result

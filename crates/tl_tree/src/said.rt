@@ -3,13 +3,12 @@
 //! A token is the bytes of its piece, from `start` to `end`. That these are a piece by themselves
 //! (`IsWhole`) is a law of `tl_html_tokens` for tags, and so is that a text and a comment say what
 //! is put in here (`characters_of`, `comment_of`).
-ghost use Rattle.std.specs.Prelude.{Bool, IfOk, IsTrue, List, [], length, ◌∷◌, ◌≡◌, ◌≤◌, ℕ};
+ghost use Rattle.std.specs.Prelude.{IfOk, IsTrue, length, ◌≡◌, ◌≤◌};
 ghost use Rattle.tl_dom_spec.specs.Tags.{html_tag};
-ghost use Rattle.tl_html_spec.specs.HtmlTokenizer.{HtmlAttribute, StartTag};
+ghost use Rattle.tl_html_parts.specs.Parts.{attributes_of, name_of};
+ghost use Rattle.tl_html_parts.specs.Places.{AreParts, IsPart, pairs_in, part_in};
 ghost use Rattle.tl_html_tokens.specs.Characters.{characters_of};
 ghost use Rattle.tl_html_tokens.specs.Comments.{comment_of};
-ghost use Rattle.tl_html_tokens.specs.Whole.{IsWhole};
-ghost use Rattle.tl_html_tokens.specs.declared.mode.Mode.{Mode};
 ghost use Rattle.tl_tree.specs.Inner.Said.{piece_at};
 ghost use Rattle.tl_tree.specs.Inner.Store.{Grows, bytes_of, is_span, is_tag, tag_of};
 
@@ -20,45 +19,28 @@ use crate::said_bytes::{put_bytes, put_name};
 use crate::span::Span;
 use crate::store::Store;
 use std::alloc::Global;
-use tl_html_parts::{comment, decoded, is_plain, tag_name};
+use tl_html_parts::{AttributePlace, PartPlace, comment, decoded, is_plain};
 use tl_html_tokens::Mode;
-
-/// A start tag, and whether it closes itself.
-#[derive(Clone, Copy)]
-pub(crate) struct SaidTag {
-    pub(crate) tag: TagEntry,
-    pub(crate) closes: bool,
-}
 
 /// What a start tag says. The vector is room for its attributes, which the caller keeps.
 pub(crate) fn start_tag(
     store: &mut Store<'_>,
     alloc: Global,
     room: &mut Vec<AttributeEntry>,
-    start: usize,
-    end: usize,
-) -> Result<SaidTag, GrowError>
-    requires order { start ≤ end }
-    requires within { end ≤ length store.old.page.now }
-    ensures tag { IfOk result (λ said. (mode : Mode) (name : List ℕ)
-        (attributes : List HtmlAttribute) (closes : Bool) →
-        IsWhole mode (piece_at store.old.page.now start end)
-        (StartTag name attributes closes ∷ []) →
-        tag_of store.new said.tag ≡ html_tag name attributes) }
-    ensures closes { IfOk result (λ said. (mode : Mode) (name : List ℕ)
-        (attributes : List HtmlAttribute) (closes : Bool) →
-        IsWhole mode (piece_at store.old.page.now start end)
-        (StartTag name attributes closes ∷ []) →
-        said.closes ≡ closes) }
-    ensures within { IfOk result (λ said. IsTrue (is_tag store.new said.tag)) }
+    name: PartPlace,
+    attributes: &[AttributePlace],
+) -> Result<TagEntry, GrowError>
+    requires name { IsPart name_of store.old.page.now name }
+    requires attributes { AreParts store.old.page.now attributes.now }
+    ensures tag { IfOk result (λ tag. tag_of store.new tag
+        ≡ html_tag (name_of (part_in store.old.page.now name))
+        (attributes_of (pairs_in store.old.page.now attributes.now))) }
+    ensures within { IfOk result (λ tag. IsTrue (is_tag store.new tag)) }
     ensures grows { Grows store.old store.new }
 {
-    let page = store.page;
-    let own = tag_name(&page[..end], start);
-    let name = put_name(store, alloc, own)?;
-    let closes = put_attributes(store, alloc, room, own.end, end)?;
-    let tag = put_tag(store, name, room.as_slice())?;
-    Ok(SaidTag { tag, closes })
+    let name = put_name(store, alloc, name)?;
+    put_attributes(store, alloc, room, attributes)?;
+    put_tag(store, name, room.as_slice())
 }
 
 /// The characters that a text says, which is read in this mode.

@@ -1,11 +1,11 @@
 //! The attributes of a tag, put into a store: the first of equal keys alone.
-ghost use Rattle.std.specs.Prelude.{IfOk, IsTrue, OnOk, length, take, ◌++◌, ◌≡◌, ◌≤◌};
+ghost use Rattle.std.specs.Prelude.{IfOk, IsTrue, OnOk, map, ◌++◌, ◌≡◌};
 ghost use Rattle.std.specs.List.{list_all};
-ghost use Rattle.tl_dom_spec.specs.Tags.{has_attribute};
+ghost use Rattle.tl_dom_spec.specs.Tags.{has_attribute, plain_attribute};
 ghost use Rattle.tl_html_spec.specs.HtmlTokenizer.{OpenTag, with_attribute};
-ghost use Rattle.tl_html_parts.specs.Parts.{name_of, value_of};
-ghost use Rattle.tl_html_parts.specs.Places.{IsPart, part_in};
-ghost use Rattle.tl_tree.specs.Inner.Said.{AreKeysBehind, IsRestRead, attributes_in, attributes_so_far, has_key, keys_in, tag_with, with_key};
+ghost use Rattle.tl_html_parts.specs.Parts.{attributes_of, name_of, value_of};
+ghost use Rattle.tl_html_parts.specs.Places.{AreParts, IsPart, pairs_in, part_in};
+ghost use Rattle.tl_tree.specs.Inner.Said.{AreKeysBehind, attributes_in, attributes_so_far, has_key, keys_in, tag_with, with_key};
 ghost use Rattle.tl_tree.specs.Inner.Store.{Grows, bytes_of, is_attribute, is_span, is_tag, list_in, tag_of};
 
 use crate::entries::{AttributeEntry, AttributeList, AttributeSpace, Namespace, TagEntry};
@@ -15,7 +15,7 @@ use crate::span::Span;
 use crate::store::Store;
 use std::alloc::Global;
 use std::collections::BTreeSet;
-use tl_html_parts::{AttributePlace, NextPart, next_part};
+use tl_html_parts::AttributePlace;
 use tl_names::element_name::ElementName;
 
 // So many keys are compared one by one.
@@ -100,35 +100,25 @@ fn put_attribute(
     Ok(())
 }
 
-/// The attributes of a tag that ends in the page at `end`, from a place after its name on. Answers
-/// whether it closes itself.
+/// The attributes of a tag of the page, in the order in which they stand there.
 pub(crate) fn put_attributes(
     store: &mut Store<'_>,
     alloc: Global,
     entries: &mut Vec<AttributeEntry>,
-    from: usize,
-    end: usize,
-) -> Result<bool, GrowError>
-    requires { end ≤ length store.old.page.now }
-    ensures read { IfOk result (λ closes. IsRestRead (take end store.old.page.now) from closes
-        (attributes_in store.new entries.new.items)) }
+    attributes: &[AttributePlace],
+) -> Result<(), GrowError>
+    requires { AreParts store.old.page.now attributes.now }
+    ensures read { OnOk result (attributes_in store.new entries.new.items
+        ≡ map plain_attribute (attributes_of (pairs_in store.old.page.now attributes.now))) }
     ensures within { OnOk result (IsTrue (list_all (is_attribute store.new) entries.new.items)) }
     ensures grows { Grows store.old store.new }
 {
     entries.clear();
-    let page = store.page;
-    let text = &page[..end];
     let mut keys = BTreeSet::new(alloc);
-    let mut at = from;
-    loop {
-        match next_part(text, at) {
-            NextPart::Attribute(attribute) => {
-                put_attribute(&mut keys, store, alloc, entries, attribute)?;
-                at = attribute.end;
-            }
-            NextPart::End { closes } => return Ok(closes),
-        }
+    for attribute in attributes {
+        put_attribute(&mut keys, store, alloc, entries, *attribute)?;
     }
+    Ok(())
 }
 
 /// Puts attributes behind those of a list.
@@ -168,6 +158,7 @@ pub(crate) fn put_tag(
         space: Namespace::Html,
         name,
         known: ElementName::OTHER,
+        number: 0,
         list,
         first_attribute,
         attribute_count: store.attribute_count(list) - first_attribute,

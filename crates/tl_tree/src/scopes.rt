@@ -10,11 +10,11 @@
 ghost use Rattle.std.specs.List.{list_all};
 ghost use Rattle.std.specs.Prelude.{IsTrue, OnOk, drop, length, slice_index, ℕ, ◌<◌, ◌≡◌, ◌≢◌, ◌≤◌};
 ghost use Rattle.tl_tree.specs.Inner.Roles.{is_elsewhere, is_not_of};
-ghost use Rattle.tl_tree.specs.Inner.Scoped.{elements, has_bucket, is_bucket_kept, is_limit_kept, limit_at, numbers, raised, skips};
+ghost use Rattle.tl_tree.specs.Inner.Scoped.{elements, has_name, is_name_kept, is_limit_kept, limit_at, numbers, raised, skips};
 ghost use Rattle.tl_tree.specs.declared.role.Kind.{Kind};
 
 use crate::error::GrowError;
-use crate::role::{BUCKETS, Entered, Kind, Role};
+use crate::role::{Entered, Kind, Role};
 use std::alloc::Global;
 
 /// From which place on no element is of a kind.
@@ -32,8 +32,8 @@ struct Limits {
 struct Entry {
     own: Entered,
     limits: Limits,
-    /// The limit of its bucket.
-    bucket: u32,
+    /// The limit of its name.
+    name: u32,
 }
 
 /// The elements of the outermost frames of a path, as they were entered.
@@ -41,18 +41,17 @@ struct Entry {
 pub(crate) struct Scopes {
     entries: Vec<Entry>,
     limits: Limits,
-    /// The limits of names, by bucket.
-    buckets: Vec<u32>,
+    /// The limits of names, by their numbers. That of one that isn't there is 0.
+    names: Vec<u32>,
     /// The place of each element, by its number. Of other numbers it says nothing.
     places: Vec<u32>,
-    ghost parted: { length buckets.items ≡ 4093 },
-    ghost in_buckets: { IsTrue (list_all has_bucket entries.items) },
+    ghost named: { IsTrue (list_all (has_name (length names.items)) entries.items) },
     ghost limited: { (kind : Kind) → IsTrue
         (skips (is_not_of kind) (limit_at kind limits) (elements entries.items)) },
-    ghost sought: { (bucket : ℕ) → IsTrue
-        (skips (is_elsewhere bucket) (slice_index buckets.items bucket) (elements entries.items)) },
+    ghost sought: { (name : ℕ) → IsTrue
+        (skips (is_elsewhere name) (slice_index names.items name) (elements entries.items)) },
     ghost limits_kept: { (kind : Kind) → IsTrue (is_limit_kept kind entries.items) },
-    ghost buckets_kept: { IsTrue (is_bucket_kept entries.items) },
+    ghost names_kept: { IsTrue (is_name_kept entries.items) },
     ghost numbered: { (place : ℕ) → place < length entries.items
         → slice_index (numbers entries.items) place < length places.items },
     ghost placed: { (place : ℕ) → place < length entries.items
@@ -90,6 +89,18 @@ impl Limits {
     }
 }
 
+// More zeros are put behind numbers, until there is one at a place.
+fn lengthen(numbers: &mut Vec<u32>, place: u32) -> Result<(), GrowError>
+    ensures within { OnOk result (place < length numbers.new.items) }
+    ensures longer { length numbers.old.items ≤ length numbers.new.items }
+    ensures same { (n : ℕ) → slice_index numbers.new.items n ≡ slice_index numbers.old.items n }
+{
+    while numbers.len() <= place as usize {
+        numbers.push(0)?;
+    }
+    Ok(())
+}
+
 // The place of a number is set, and those of other numbers stay.
 fn set_place(places: &mut Vec<u32>, number: u32, place: u32) -> Result<(), GrowError>
     ensures within { OnOk result (number < length places.new.items) }
@@ -98,9 +109,7 @@ fn set_place(places: &mut Vec<u32>, number: u32, place: u32) -> Result<(), GrowE
     ensures others { (n : ℕ) → n < length places.old.items → n ≢ number
         → slice_index places.new.items n ≡ slice_index places.old.items n }
 {
-    while places.len() <= number as usize {
-        places.push(0)?;
-    }
+    lengthen(places, number)?;
     places[number as usize] = place;
     Ok(())
 }
@@ -112,12 +121,10 @@ impl Scopes {
     ghost use Rattle.tl_tree.specs.Inner.Roles.{is_numbered, is_within};
 
     /// No element.
-    pub(crate) fn new(alloc: Global) -> Result<Scopes, GrowError>
-        ensures { IfOk result (λ scopes. entered scopes ≡ []) }
+    pub(crate) fn new(alloc: Global) -> Scopes
+        ensures { entered result ≡ [] }
     {
-        let mut buckets = Vec::new(alloc);
-        buckets.resize(BUCKETS as usize, 0)?;
-        Ok(Scopes {
+        Scopes {
             entries: Vec::new(alloc),
             limits: Limits {
                 scope: 0,
@@ -126,9 +133,9 @@ impl Scopes {
                 decisive: 0,
                 html: 0,
             },
-            buckets,
+            names: Vec::new(alloc),
             places: Vec::new(alloc),
-        })
+        }
     }
 
     /// How many elements were entered.
@@ -141,8 +148,7 @@ impl Scopes {
 
     /// An element comes onto the path.
     pub(crate) fn enter(&mut self, own: Entered) -> Result<(), GrowError>
-        requires bucket { own.role.bucket < 4093 }
-        requires new { list_any (is_numbered own.number) (entered self.old) ≡ false }
+        requires { list_any (is_numbered own.number) (entered self.old) ≡ false }
         ensures ok { OnOk result (entered self.new ≡ entered self.old ++ own ∷ []) }
         ensures err { IsErr result → entered self.new ≡ entered self.old }
     {
@@ -151,15 +157,16 @@ impl Scopes {
             return Err(GrowError::TooLarge);
         }
         set_place(&mut self.places, own.number, place as u32)?;
-        let bucket = own.role.bucket as usize;
+        lengthen(&mut self.names, own.role.name)?;
+        let name = own.role.name as usize;
         self.entries.push(Entry {
             own,
             limits: self.limits,
-            bucket: self.buckets[bucket],
+            name: self.names[name],
         })?;
         let end = place as u32 + 1;
         self.limits = self.limits.raised(own.role, end);
-        self.buckets[bucket] = end;
+        self.names[name] = end;
         Ok(())
     }
 
@@ -172,7 +179,7 @@ impl Scopes {
             return;
         };
         self.limits = last.limits;
-        self.buckets[last.own.role.bucket as usize] = last.bucket;
+        self.names[last.own.role.name as usize] = last.name;
     }
 
     /// So many elements stay.
@@ -192,13 +199,15 @@ impl Scopes {
         (self.limits.of(kind) as usize).min(self.len())
     }
 
-    /// From which place on no element is in a list of names.
-    pub(crate) fn limit_of(&self, bucket: u32) -> usize
-        requires { bucket < 4093 }
+    /// From which place on no element has the name of a number.
+    pub(crate) fn limit_of(&self, name: u32) -> usize
         ensures within { result ≤ length (entered self.now) }
-        ensures skips { IsTrue (list_all (is_elsewhere bucket) (drop result (entered self.now))) }
+        ensures skips { IsTrue (list_all (is_elsewhere name) (drop result (entered self.now))) }
     {
-        (self.buckets[bucket as usize] as usize).min(self.len())
+        if name as usize >= self.names.len() {
+            return 0;
+        }
+        (self.names[name as usize] as usize).min(self.len())
     }
 
     /// The place of the element of a number.
@@ -222,17 +231,18 @@ impl Scopes {
 
     // Whether the limits that entries further in keep hold once a new element stands right outside
     // of them. Such a limit may end right there, and pass over it: so it is to be of no kind that
-    // the element outside of it isn't of, and none further in is to be in its list of names.
+    // the element outside of it isn't of, and none further in is to have its name.
     fn can_turn(&self, place: usize, inside: Role, new: Role) -> bool
-        requires { new.bucket < 4093 }
         ensures short { result ≡ true → place + 2 < 4294967296 }
         ensures kinds { result ≡ true → is_within new inside ≡ true }
-        ensures bucket { result ≡ true
-            → slice_index self.now.buckets.items new.bucket ≤ place + 2 }
+        ensures name { result ≡ true
+            → slice_index self.now.names.items new.name ≤ place + 2 }
+        ensures within { result ≡ true → new.name < length self.now.names.items }
     {
         place < u32::MAX as usize - 1
             && new.is_within(inside)
-            && self.buckets[new.bucket as usize] as usize <= place + 2
+            && (new.name as usize) < self.names.len()
+            && self.names[new.name as usize] as usize <= place + 2
     }
 
     /// The element at a place leaves; the next one stands there, and a new one right inside of it,
@@ -240,7 +250,6 @@ impl Scopes {
     #[tactic(auto, unfolding(crate::specs::Inner::Entered::entered))]
     pub(crate) fn turn(&mut self, place: usize, new: Entered)
         requires within { place + 1 < length (entered self.old) }
-        requires bucket { new.role.bucket < 4093 }
         requires new { list_any (is_numbered new.number) (entered self.old) ≡ false }
         ensures { entered self.new
             ≡ take (length (entered self.new)) (turned place new (entered self.old)) }
@@ -260,14 +269,14 @@ impl Scopes {
         self.entries[place] = Entry {
             own: inside.own,
             limits: gone.limits,
-            bucket: inside.bucket,
+            name: inside.name,
         };
         self.entries[place + 1] = Entry {
             own: new,
             limits: gone.limits.raised(inside.own.role, middle),
-            bucket: middle,
+            name: middle,
         };
         self.places[inside.own.number as usize] = place as u32;
-        self.buckets[new.role.bucket as usize] = place as u32 + 2;
+        self.names[new.role.name as usize] = place as u32 + 2;
     }
 }

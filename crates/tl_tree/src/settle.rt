@@ -8,6 +8,7 @@ ghost use Rattle.std.specs.List.{list_all};
 ghost use Rattle.std.specs.Option.{MatchOption};
 ghost use Rattle.std.specs.Prelude.{IfOk, IfSome, OnOk, [], length, ◌+◌, ◌++◌, ◌<◌, ◌≡◌, ◌^◌, ◌∷◌};
 ghost use Rattle.tl_dom_spec.specs.HtmlForest.{before, has_contents, no_trees};
+ghost use Rattle.tl_dom_spec.specs.Marks.{marked};
 ghost use Rattle.tl_dom_spec.specs.Path.{and_element, joined, no_nodes};
 ghost use Rattle.tl_tree.specs.Inner.Gathering.{closed, gathered, flushed, only_rows, put, with_piece};
 ghost use Rattle.tl_tree.specs.Inner.RowView.{bytes_in, held_in, held_is_within};
@@ -23,7 +24,8 @@ use crate::error::GrowError;
 use crate::row::{Held, Row};
 use crate::seat::seat;
 use crate::settling::{Opened, Settled, Settling};
-use crate::span::Span;
+use crate::source::Bounds;
+use crate::span::{Piece, Span};
 use crate::store::Store;
 use crate::tree::Tree;
 use std::alloc::Global;
@@ -74,6 +76,7 @@ impl<'s, 'p> Settling<'s, 'p> {
     }
 
     /// The text that waits is whole.
+    #[inline(always)]
     fn flush(&mut self) -> Result<(), GrowError>
         requires { Sound self.old }
         ensures { OnOk result
@@ -83,17 +86,19 @@ impl<'s, 'p> Settling<'s, 'p> {
             return Ok(());
         }
         let span = self.whole()?;
+        let source = self.source;
         self.pieces.clear();
-        self.push(Held::Text(span), self.written())
+        self.push(Held::Text(Piece { span, source }), self.written())
     }
 
     /// A piece of a text, before what is written.
-    fn add_piece(&mut self, piece: Span) -> Result<(), GrowError>
+    fn add_piece(&mut self, piece: Span, source: u32) -> Result<(), GrowError>
         requires sound { Sound self.old }
         requires within { IsTrue (is_span self.old.store.now piece) }
         ensures { OnOk result (Turns self.old self.new
-            (with_piece (bytes_of self.old.store.now piece) (state_of self.old))) }
+            (with_piece (marked source (bytes_of self.old.store.now piece)) (state_of self.old))) }
     {
+        self.source = source;
         let Some(next) = self.pieces.pop() else {
             self.pieces.push(piece)?;
             return Ok(());
@@ -145,9 +150,9 @@ impl<'s, 'p> Settling<'s, 'p> {
             + held_weight self.old.store.now cell.node)) }
     {
         match cell.node {
-            Node::Text(span) => self.add_piece(span)?,
-            Node::Comment(span) => self.add(Held::Comment(span))?,
-            Node::Doctype(number) => self.add(Held::Doctype(number))?,
+            Node::Text(piece) => self.add_piece(piece.span, piece.source)?,
+            Node::Comment(piece) => self.add(Held::Comment(piece))?,
+            Node::Doctype { doctype, source } => self.add(Held::Doctype { doctype, source })?,
             Node::Element { tag, below } => return self.open(tag, below, cell.before),
             Node::Joined(second) => {
                 self.stack.push(Opened::Row(cell.before))?;
@@ -235,6 +240,8 @@ impl<'s, 'p> Settling<'s, 'p> {
 }
 
 /// Copies the pieces of a text, which are listed from the last to the first.
+#[cold]
+#[inline(never)]
 fn copy(store: &Store<'_>, pieces: &[Span], copied: &mut Vec<u8>) -> Result<(), GrowError>
     requires short { length store.now.page.now
         + (length store.now.side.items + length copied.old.items) < 2 ^ 32 }
@@ -292,11 +299,13 @@ pub(crate) fn settle(alloc: Global, store: &Store<'_>, row: u32) -> Result<Settl
     requires { IsTrue (is_row store.now row) }
     ensures { IfOk result (AreRowsOf store.now row) }
 {
+    let rows = Vec::with_capacity(alloc, store.cells.len())?;
     let mut settling = Settling {
         store,
         copied: Vec::new(alloc),
-        rows: Vec::new(alloc),
+        rows,
         pieces: Vec::new(alloc),
+        source: 0,
         stack: Vec::new(alloc),
     };
     settling.run(row)?;
@@ -305,6 +314,7 @@ pub(crate) fn settle(alloc: Global, store: &Store<'_>, row: u32) -> Result<Settl
         copied,
         mut rows,
         pieces: _,
+        source: _,
         stack: _,
     } = settling;
     rows.reverse();
@@ -312,19 +322,20 @@ pub(crate) fn settle(alloc: Global, store: &Store<'_>, row: u32) -> Result<Settl
     Ok(Settled { rows, copied })
 }
 
-/// The tree of a row of nodes, with the places of the start tags. Nothing but this row is left of
+/// The tree of a row of nodes, with the places of the marks. Nothing but this row is left of
 /// the store's cells.
 pub(crate) fn tree_of<'p>(
     alloc: Global,
     store: Store<'p>,
     row: u32,
-    sources: Vec<Span>,
+    sources: Vec<Bounds>,
     is_quirks: bool,
 ) -> Result<Tree<'p>, GrowError>
     requires { IsTrue (is_row store row) }
     ensures rows { IfOk result (λ tree.
         rows_in tree ≡ rows_of (before (nodes_of store.entry row) no_trees)) }
     ensures sources { IfOk result (λ tree. tree.sources.items ≡ sources.items) }
+    ensures page { IfOk result (λ tree. tree.store.page.now ≡ store.entry.page.now) }
     ensures quirks { IfOk result (λ tree. tree.is_quirks ≡ is_quirks) }
 {
     let made = settle(alloc, &store, row)?;

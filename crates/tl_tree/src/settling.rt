@@ -25,6 +25,8 @@ pub(crate) struct Settling<'s, 'p> {
     pub(crate) rows: Vec<Row>,
     /// The last piece first.
     pub(crate) pieces: Vec<Span>,
+    /// How many marks stand before the first one.
+    pub(crate) source: u32,
     /// The innermost last.
     pub(crate) stack: Vec<Opened>,
 }

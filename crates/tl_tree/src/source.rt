@@ -1,10 +1,9 @@
-//! Where start tags stand in a page.
-ghost use Rattle.std.specs.Prelude.{OnOk, ◌≡◌, ◌≤◌};
+//! Where in the page what stands in a tree comes from.
+ghost use Rattle.std.specs.Prelude.{IsTrue, OnOk, [], suc, ◌++◌, ◌≡◌, ◌∷◌};
 ghost use Rattle.tl_tree.specs.Inner.Sourced.{with_source};
 
 use crate::error::GrowError;
 use crate::row::Held;
-use crate::span::Span;
 use crate::tree::Tree;
 use tl_html_tokens::{Front, TokenKind};
 
@@ -15,60 +14,112 @@ pub struct Source {
     pub end: usize,
 }
 
-/// Keeps where what stands in front begins and ends, if that is a start tag.
+/// Where a mark of the page begins and ends.
+#[derive(Clone, Copy)]
+pub(crate) struct Bounds {
+    pub(crate) start: u32,
+    pub(crate) end: u32,
+}
+
+/// Keeps where what stands in front begins and ends, if that is a mark.
 pub(crate) fn keep_source(
-    sources: &mut Vec<Span>,
+    sources: &mut Vec<Bounds>,
     start: usize,
     front: Front,
 ) -> Result<(), GrowError>
-    requires { start ≤ front.end }
     ensures { OnOk result
         (sources.new.items ≡ with_source sources.old.items start front) }
 {
-    let TokenKind::StartTag = front.kind else {
+    if matches!(front.kind, TokenKind::Text | TokenKind::Nothing) {
         return Ok(());
-    };
-    let len = front.end - start;
-    if start > u32::MAX as usize || len > u32::MAX as usize {
+    }
+    push_source(sources, start, front.end)
+}
+
+/// Keeps the begin and the end of a mark, or of what stands before all marks.
+pub(crate) fn push_source(
+    sources: &mut Vec<Bounds>,
+    start: usize,
+    end: usize,
+) -> Result<(), GrowError>
+    ensures { OnOk result (sources.new.items
+        ≡ sources.old.items ++ record { start = start; end = end } ∷ []) }
+{
+    if start > u32::MAX as usize || end > u32::MAX as usize {
         return Err(GrowError::TooLarge);
     }
-    sources.push(Span {
+    sources.push(Bounds {
         start: start as u32,
-        len: len as u32,
+        end: end as u32,
     })?;
     Ok(())
 }
 
 impl<'p> Tree<'p> {
-    ghost use Rattle.tl_tree.specs.Sources.{number_at, source_at};
-    ghost use Rattle.tl_tree.specs.TreeView.{rows_in};
+    ghost use Rattle.tl_tree.specs.Sources.{gap_at, place_at, source_at, start_tag_at};
+    ghost use Rattle.tl_tree.specs.Inner.Store.{is_tag_number, tag_at};
 
-    // The number of the start tag of an element.
-    fn start_tag(&self, number: usize) -> Option<u32>
-        ensures { result ≡ number_at (rows_in self.now) number }
+    // Where the page begins, or the mark stands whose number is one less.
+    fn place(&self, index: usize) -> Option<Source>
+        ensures { result ≡ place_at self.now index }
     {
-        let Held::Element(tag) = self.rows.get(number)?.held else {
-            return None;
-        };
-        let start = self.store.tags[tag as usize].start;
-        if start == 0 {
-            return None;
-        }
-        Some(start - 1)
+        let bounds = self.sources.get(index)?;
+        Some(Source {
+            start: bounds.start as usize,
+            end: bounds.end as usize,
+        })
     }
 
-    /// Where the start tag of an element stands in the page: none where no start tag stands for it.
+    // Where the mark of a number stands.
+    fn mark(&self, number: u32) -> Option<Source>
+        ensures { result ≡ place_at self.now (suc number) }
+    {
+        self.place(number as usize + 1)
+    }
+
+    // What stands between so many marks and the next one.
+    fn gap(&self, marks: u32) -> Option<Source>
+        ensures { result ≡ gap_at self.now marks }
+    {
+        let before = self.place(marks as usize)?;
+        let end = match self.mark(marks) {
+            Some(next) => next.start,
+            None => self.store.page.len(),
+        };
+        Some(Source {
+            start: before.end,
+            end,
+        })
+    }
+
+    // Where the start tag of an element stands.
+    fn start_tag(&self, tag: u32) -> Option<Source>
+        requires { IsTrue (is_tag_number self.now.store tag) }
+        ensures { result ≡ start_tag_at self.now (tag_at self.now.store tag).source }
+    {
+        let entry = self.store.tag(tag);
+        if entry.start == 0 {
+            return None;
+        }
+        self.place(entry.start as usize)
+    }
+
+    /// Where in the page a node comes from.
     ///
-    /// What is made anew of an element, as formatting elements are, has the start tag of that one.
+    /// Of an element this is its start tag, and none where no start tag stands for it: what is made
+    /// anew of an element, as formatting elements are, has the start tag of that one. Of a comment
+    /// and of a doctype it is all of it. Of a text it is what stands between two tags, comments or
+    /// doctypes, and holds the beginning of the text: more may have been added from elsewhere, and
+    /// some of what stands there may have gone elsewhere.
     pub fn source(&self, number: usize) -> Option<Source>
         ensures { result ≡ source_at self.now number }
     {
-        let start = self.start_tag(number)?;
-        let span = self.sources.get(start as usize)?;
-        let start = span.start as usize;
-        Some(Source {
-            start,
-            end: start + span.len as usize,
-        })
+        match self.rows.get(number)?.held {
+            Held::Element(tag) => self.start_tag(tag),
+            Held::Contents => None,
+            Held::Text(piece) => self.gap(piece.source),
+            Held::Comment(piece) => self.mark(piece.source),
+            Held::Doctype { doctype: _, source } => self.mark(source),
+        }
     }
 }

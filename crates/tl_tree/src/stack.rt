@@ -1,16 +1,15 @@
 //! What single rules ask of the stack of open elements, and what they change in it.
-ghost use Rattle.std.specs.Option.{option_map};
 ghost use Rattle.std.specs.Prelude.{IfSome, IsTrue, None, [], false, length, slice_index_or, true, ◌+◌, ◌<◌, ◌∷◌, ◌≡◌};
 ghost use Rattle.tl_dom_spec.specs.Body.{body_number, from_html};
 ghost use Rattle.tl_dom_spec.specs.Builder.{is_only};
 ghost use Rattle.tl_dom_spec.specs.Path.{document, elements};
 ghost use Rattle.tl_tree.specs.Inner.Adopted.{frame_at};
 ghost use Rattle.tl_tree.specs.Inner.Frames.{changed, frames_of, path_of};
-ghost use Rattle.tl_tree.specs.Inner.Roles.{role_of};
-ghost use Rattle.tl_tree.specs.Inner.Stack.{inner, opened_from, retagged};
+ghost use Rattle.tl_tree.specs.Inner.Entered.{role_at};
+ghost use Rattle.tl_tree.specs.Inner.Stack.{inner, opened_from, retagged, tag_in};
 ghost use Rattle.tl_tree.specs.Inner.Store.{is_tag_number, tag_at};
 
-use crate::frame::{Frame, Mark};
+use crate::frame::Frame;
 use crate::names::Names;
 use crate::path::FramePath;
 use crate::test::{TagTest, Test};
@@ -20,8 +19,8 @@ impl<'a> FramePath<'a> {
     pub(crate) fn retag(&mut self, index: usize, tag: u32)
         requires index { index < length self.old.frames.items }
         requires tag { IsTrue (is_tag_number self.old.store tag) }
-        requires role { role_of (tag_at self.old.store tag)
-            ≡ role_of (frame_at self.old index).tag }
+        requires role { role_at self.old.store tag
+            ≡ role_at self.old.store (tag_in self.old index) }
         ensures frames { frames_of self.new
             ≡ changed index (retagged (tag_at self.old.store tag)) (frames_of self.old) }
         ensures store { self.new.store ≡ self.old.store }
@@ -54,6 +53,8 @@ impl<'a> FramePath<'a> {
     }
 
     // The first open frame from a place on, further in.
+    #[cold]
+    #[inline(never)]
     fn next_open(&self, from: usize) -> Option<usize>
         ensures within { IfSome result (λ index. index < length self.now.frames.items) }
         ensures some { IfSome result (λ index. opened_from self.now from
@@ -70,16 +71,15 @@ impl<'a> FramePath<'a> {
     }
 
     /// The second element of the stack, where that is a `body`.
-    pub(crate) fn body_number(&self) -> Option<Mark>
-        ensures { option_map (λ mark. mark.number) result
-            ≡ body_number (elements (path_of self.now)) }
+    pub(crate) fn body_number(&self) -> Option<u32>
+        ensures { result ≡ body_number (elements (path_of self.now)) }
     {
         let first = self.next_open(0)?;
         let second = self.next_open(first + 1)?;
         let frame = self.frames[second];
         let body = Test::Tag(TagTest::Any(Names::Body));
         if body.passes(&self.store, frame) {
-            Some(Mark::new(frame.number, second))
+            Some(frame.number)
         } else {
             None
         }

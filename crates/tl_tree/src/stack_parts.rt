@@ -21,7 +21,7 @@ impl<'a> Builder<'a> {
     pub(crate) fn body_number(&self) -> Option<u32>
         ensures { result ≡ body_number (elements (builder_of self.now).path) }
     {
-        self.path.body_number().map(|mark| mark.number)
+        self.path.body_number()
     }
 
     /// What stands inside of the `html` element is no part of the tree any more.

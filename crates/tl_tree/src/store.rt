@@ -3,18 +3,19 @@
 //! Others may rely on this: what is in range in a store (`is_within` and its like in
 //! `specs/Inner/Store`) stands for the same in each store that begins with it (`Grows`;
 //! `proofs/Grown`), and each number that a store holds is in range (`Store`'s ghost fields).
-ghost use Rattle.std.specs.Prelude.{IsTrue, length, map, ◌+◌, ◌++◌, ◌<◌, ◌^◌, ◌≡◌};
+ghost use Rattle.std.specs.Prelude.{IsTrue, drop, length, map, take, ◌+◌, ◌++◌, ◌<◌, ◌^◌, ◌≡◌};
 ghost use Rattle.std.specs.List.{list_all};
-ghost use Rattle.tl_tree.specs.Inner.Lists.{in_list, many_in};
+ghost use Rattle.tl_tree.specs.Inner.Lists.{AreBothPlaced, in_list, many_in};
 ghost use Rattle.tl_tree.specs.declared.entries.AttributeList.{AttributeList};
-ghost use Rattle.tl_tree.specs.Inner.Within.{attribute_is_within, cells_are_within, doctype_is_within, known_in, known_of, tag_is_within};
+ghost use Rattle.tl_tree.specs.Inner.Within.{attribute_is_within, cells_are_within, doctype_is_within, key_in, known_in, known_of, number_of, numbered_in, span_is_within, tag_is_within};
 
 use crate::attribute_lists::AttributeLists;
 use crate::cell::{Cell, Node};
-use crate::entries::{AttributeEntry, AttributeList, DoctypeEntry, TagEntry};
+use crate::entries::{AttributeEntry, AttributeList, AttributeSpace, DoctypeEntry, TagEntry};
 use crate::error::GrowError;
+use crate::met_names::MetNames;
 use crate::span::Span;
-use std::alloc::Global;
+use std::alloc::{AllocError, Global};
 use tl_names::element_name::ElementName;
 
 /// What was read of a page and is settled.
@@ -25,6 +26,7 @@ pub(crate) struct Store<'a> {
     pub(crate) side: Vec<u8>,
     pub(crate) attributes: AttributeLists,
     pub(crate) tags: Vec<TagEntry>,
+    pub(crate) names: MetNames,
     pub(crate) doctypes: Vec<DoctypeEntry>,
     pub(crate) cells: Vec<Cell>,
     ghost short: { length page.now + length side.items < 2 ^ 32 },
@@ -32,12 +34,15 @@ pub(crate) struct Store<'a> {
         (list_all
         (attribute_is_within (length page.now) (length side.items))
         (in_list attributes list)) },
+    ghost keys_placed: { AreBothPlaced (key_in (page.now ++ side.items)) attributes },
     ghost tags_within: { IsTrue
         (list_all
         (tag_is_within (length page.now) (length side.items) (many_in attributes))
         tags.items) },
     ghost names_known: { map known_of tags.items
         ≡ map (known_in (page.now ++ side.items)) tags.items },
+    ghost names_numbered: { map number_of tags.items
+        ≡ map (numbered_in names (page.now ++ side.items)) tags.items },
     ghost doctypes_within: { IsTrue
         (list_all (doctype_is_within (length page.now) (length side.items)) doctypes.items) },
     ghost cells_within: { IsTrue
@@ -52,11 +57,31 @@ pub(crate) struct Store<'a> {
         cells.items) },
 }
 
+// Bytes of a text that is a page, and behind it others.
+fn bytes_at<'s>(page: &'s [u8], side: &'s [u8], span: Span) -> &'s [u8]
+    requires short { length page.now + length side.now < 2 ^ 32 }
+    requires within { IsTrue (span_is_within (length page.now) (length side.now) span) }
+    ensures { result.now ≡ take span.len (drop span.start (page.now ++ side.now)) }
+{
+    let start = span.start as usize;
+    let end = start + span.len as usize;
+    let before = page.len();
+    if end <= before {
+        &page[start..end]
+    } else {
+        &side[start - before..end - before]
+    }
+}
+
 impl<'a> Store<'a> {
-    ghost use Rattle.std.specs.Prelude.{Err, IfOk, OnOk, [], ◌↔◌, ◌∷◌, ◌≤◌};
+    ghost use Rattle.std.specs.Prelude.{Err, IfOk, OnOk, [], ◌&&◌, ◌↔◌, ◌∷◌, ◌≤◌};
+    ghost use Rattle.std.specs.Str.{bytes_eq};
     ghost use Rattle.tl_names.specs.ElementNames.{name_of};
+    ghost use Rattle.tl_tree.specs.Asked.{has_no_space};
     ghost use Rattle.tl_dom_spec.specs.Path.{joined};
-    ghost use Rattle.tl_tree.specs.Inner.Store.{Grows, bytes_of, doctype_at, doctype_of, is_attribute, is_doctype, is_doctype_number, is_node, is_row, is_span, is_tag, is_tag_number, list_in, node_of, nodes_of, tag_at, tag_of};
+    ghost use Rattle.tl_tree.specs.Inner.MetNames.{number_in};
+    ghost use Rattle.tl_tree.specs.Inner.NameNumbers.{number_at};
+    ghost use Rattle.tl_tree.specs.Inner.Store.{Grows, attribute_of, bytes_of, doctype_at, doctype_of, is_attribute, is_doctype, is_doctype_number, is_node, is_row, is_span, is_tag, is_tag_number, list_in, node_of, nodes_of, tag_at, tag_of};
 
     /// Nothing yet.
     pub(crate) fn new(alloc: Global, page: &'a [u8]) -> Result<Store<'a>, GrowError>
@@ -67,17 +92,20 @@ impl<'a> Store<'a> {
         if page.len() > u32::MAX as usize {
             return Err(GrowError::TooLarge);
         }
+        let attributes = AttributeLists::new(alloc, page.len() / 64)?;
         Ok(Store {
             page,
             side: Vec::new(alloc),
-            attributes: AttributeLists::new(alloc),
-            tags: Vec::new(alloc),
+            attributes,
+            tags: Vec::with_capacity(alloc, page.len() / 32)?,
+            names: MetNames::new(alloc),
             doctypes: Vec::new(alloc),
-            cells: Vec::new(alloc),
+            cells: Vec::with_capacity(alloc, page.len() / 16)?,
         })
     }
 
     /// A row with a node behind it, which is a new row. Texts that meet there are one text.
+    #[inline(always)]
     pub(crate) fn add(&mut self, before: u32, node: Node) -> Result<u32, GrowError>
         requires before { IsTrue (is_row self.old before) }
         requires node { IsTrue (is_node self.old node) }
@@ -154,10 +182,13 @@ impl<'a> Store<'a> {
         ensures too_large { result ≡ Err GrowError.TooLarge
             → 2 ^ 32 ≤ length (list_in self.old list) + 1 }
     {
-        self.attributes.add(list, attribute)
+        let alloc = *self.tags.allocator();
+        let key = bytes_at(self.page, &self.side, attribute.key);
+        self.attributes.add(alloc, list, attribute, key)
     }
 
     /// Puts a tag behind the others, and answers its number.
+    #[inline(always)]
     pub(crate) fn add_tag(&mut self, tag: TagEntry) -> Result<u32, GrowError>
         requires { IsTrue (is_tag self.old tag) }
         ensures stands { IfOk result (λ number. tag_at self.new number ≡ tag_of self.old tag) }
@@ -170,8 +201,15 @@ impl<'a> Store<'a> {
         if number >= u32::MAX as usize {
             return Err(GrowError::TooLarge);
         }
-        let known = ElementName::of(self.bytes(tag.name));
-        self.tags.push(TagEntry { known, ..tag })?;
+        let alloc = *self.tags.allocator();
+        let name = bytes_at(self.page, &self.side, tag.name);
+        let known = ElementName::of(name);
+        let own = TagEntry {
+            known,
+            number: self.names.meet(alloc, known, name)?,
+            ..tag
+        };
+        self.tags.push(own)?;
         Ok(number as u32)
     }
 
@@ -199,6 +237,7 @@ impl<'a> Store<'a> {
         ensures stands { tag_of self.now result ≡ tag_at self.now number }
         ensures within { IsTrue (is_tag self.now result) }
         ensures known { result.known ≡ name_of (bytes_of self.now result.name) }
+        ensures number { result.number ≡ number_at self.now number }
     {
         self.tags[number as usize]
     }
@@ -212,18 +251,31 @@ impl<'a> Store<'a> {
         self.doctypes[number as usize]
     }
 
+    /// Whether an attribute has a key and no namespace. Lengths are compared first.
+    #[inline]
+    pub(crate) fn is_plain_key(&self, entry: AttributeEntry, key: &[u8]) -> bool
+        requires { IsTrue (is_attribute self.now entry) }
+        ensures { result ≡ (let own = attribute_of self.now entry in
+            has_no_space own.space && bytes_eq own.key key.now) }
+    {
+        if entry.key.len as usize != key.len() {
+            return false;
+        }
+        entry.space == AttributeSpace::Plain && self.bytes(entry.key) == key
+    }
+
     /// Bytes of the text.
     pub(crate) fn bytes(&self, span: Span) -> &[u8]
         requires { IsTrue (is_span self.now span) }
         ensures { result.now ≡ bytes_of self.now span }
     {
-        let start = span.start as usize;
-        let end = start + span.len as usize;
-        let before = self.page.len();
-        if end <= before {
-            &self.page[start..end]
-        } else {
-            &self.side[start - before..end - before]
-        }
+        bytes_at(self.page, &self.side, span)
+    }
+
+    /// The number of a name in any case, where a tag may have it.
+    pub(crate) fn number(&self, name: &[u8]) -> Result<Option<u32>, AllocError>
+        ensures { IfOk result (λ number. number ≡ number_in self.now.names name.now) }
+    {
+        self.names.number(*self.tags.allocator(), name)
     }
 }

@@ -1,17 +1,23 @@
 //! Tokens of the page, handed to the tree builder.
 //!
 //! A token is the bytes of its piece, from `start` to `end`.
-ghost use Rattle.std.specs.Prelude.{Bool, List, OnOk, [], length, map, ◌≡◌, ◌≤◌, ◌∷◌, ℕ};
-ghost use Rattle.tl_dom_spec.specs.Builder.{a_character, a_comment, a_doctype, a_start, an_end};
+ghost use Rattle.std.specs.Prelude.{List, OnOk, length, map, ◌≡◌, ◌≤◌};
+ghost use Rattle.tl_dom_spec.specs.Builder.{a_character, a_comment, a_doctype, an_end};
 ghost use Rattle.tl_dom_spec.specs.Dispatcher.{token_done, tokens_done};
+ghost use Rattle.tl_dom_spec.specs.Driver.{builder};
 ghost use Rattle.tl_dom_spec.specs.Groups.{group};
-ghost use Rattle.tl_dom_spec.specs.Tags.{html_tag};
-ghost use Rattle.tl_html_spec.specs.HtmlTokenizer.{EndTag, HtmlAttribute, StartTag};
+ghost use Rattle.tl_dom_spec.specs.Marks.{unmarked};
+ghost use Rattle.tl_html_spec.specs.Driven.{Emission, taken};
+ghost use Rattle.tl_html_parts.specs.Fronts.{IsTagRead};
+ghost use Rattle.tl_html_parts.specs.Parts.{name_of};
+ghost use Rattle.tl_html_parts.specs.Places.{AreParts, IsPart};
 ghost use Rattle.tl_html_tokens.specs.Characters.{characters_of};
 ghost use Rattle.tl_html_tokens.specs.Comments.{comment_of};
-ghost use Rattle.tl_html_tokens.specs.Whole.{IsWhole};
+ghost use Rattle.tl_html_tokens.specs.Emits.{AreEmits};
+ghost use Rattle.tl_html_tokens.specs.declared.mode.Mode.TheVariants.{Data};
 ghost use Rattle.tl_tree.specs.Inner.Builders.{builder_of, token_of};
 ghost use Rattle.tl_html_tokens.specs.Doctypes.{doctype_said};
+ghost use Rattle.tl_tree.specs.Inner.Parted.{end_said, start_said};
 ghost use Rattle.tl_tree.specs.Inner.Said.{piece_at};
 
 use crate::builder::Builder;
@@ -20,34 +26,31 @@ use crate::error::GrowError;
 use crate::group::group_of;
 use crate::token::Token;
 use std::alloc::Global;
-use tl_html_parts::tag_name;
-use tl_html_tokens::Mode;
+use tl_html_parts::{AttributePlace, PartPlace, TagFront};
+use tl_html_tokens::{Mode, TokenKind};
 use tl_html_write::lower_name;
 use tl_names::element_name::ElementName;
 
 impl<'a> Builder<'a> {
+    /// Takes a start tag of the page.
     pub(crate) fn take_start_tag(
         &mut self,
         alloc: Global,
         room: &mut Vec<AttributeEntry>,
-        start: usize,
-        end: usize,
+        attributes: &[AttributePlace],
+        tag: TagFront,
     ) -> Result<(), GrowError>
-        requires order { start ≤ end }
-        requires within { end ≤ length self.old.path.store.page.now }
-        ensures ok { OnOk result ((mode : Mode) (name : List ℕ)
-            (attributes : List HtmlAttribute) (closes : Bool) →
-            IsWhole mode (piece_at self.old.path.store.page.now start end)
-            (StartTag name attributes closes ∷ []) →
-            builder_of self.new
+        requires name { IsPart name_of self.old.path.store.page.now tag.name }
+        requires attributes { AreParts self.old.path.store.page.now attributes.now }
+        ensures ok { OnOk result (builder_of self.new
             ≡ token_done (builder_of self.old)
-            (a_start (group name) (html_tag name attributes) closes)) }
+            (start_said self.old.path.store.page.now attributes.now tag)) }
         ensures page { (token_of self.new).page ≡ (token_of self.old).page }
     {
-        let held = self.hold_start_tag(alloc, room, start, end)?;
+        let group = self.hold_start_tag(alloc, room, tag.name, attributes)?;
         self.take_token(Token::Start {
-            group: held.group,
-            closes: held.closes,
+            group,
+            closes: tag.closes,
         })
     }
 
@@ -61,7 +64,7 @@ impl<'a> Builder<'a> {
         requires within { end ≤ length self.old.path.store.page.now }
         ensures ok { OnOk result (builder_of self.new
             ≡ token_done (builder_of self.old)
-            (a_comment (comment_of (piece_at self.old.path.store.page.now start end)))) }
+            (a_comment (unmarked (comment_of (piece_at self.old.path.store.page.now start end))))) }
         ensures page { (token_of self.new).page ≡ (token_of self.old).page }
     {
         self.hold_comment(alloc, start, end)?;
@@ -78,7 +81,8 @@ impl<'a> Builder<'a> {
         requires within { end ≤ length self.old.path.store.page.now }
         ensures ok { OnOk result (builder_of self.new
             ≡ token_done (builder_of self.old)
-            (a_doctype (doctype_said (piece_at self.old.path.store.page.now start end)))) }
+            (a_doctype
+            (unmarked (doctype_said (piece_at self.old.path.store.page.now start end))))) }
         ensures page { (token_of self.new).page ≡ (token_of self.old).page }
     {
         self.hold_doctype(alloc, start, end)?;
@@ -115,20 +119,42 @@ impl<'a> Builder<'a> {
         self.take_token(Token::End { group, name })
     }
 
-    /// An end tag, whose bytes these are.
-    pub(crate) fn take_end_tag(&mut self, alloc: Global, bytes: &[u8]) -> Result<(), GrowError>
-        ensures ok { OnOk result ((mode : Mode) (name : List ℕ) →
-            IsWhole mode bytes.now (EndTag name ∷ []) →
-            builder_of self.new
-            ≡ token_done (builder_of self.old) (an_end (group name) name)) }
+    /// Takes an end tag of the page, whose name stands there.
+    pub(crate) fn take_end_tag(&mut self, alloc: Global, name: PartPlace) -> Result<(), GrowError>
+        requires { IsPart name_of self.old.path.store.page.now name }
+        ensures ok { OnOk result (builder_of self.new
+            ≡ token_done (builder_of self.old)
+            (end_said self.old.path.store.page.now name)) }
         ensures page { (token_of self.new).page ≡ (token_of self.old).page }
     {
-        let name = tag_name(bytes, 0);
-        let raw = &bytes[name.start..name.end];
+        let page = self.path.store.page;
+        let raw = &page[name.start..name.end];
         if name.is_plain {
             return self.take_end(raw);
         }
         let lower = lower_name(alloc, raw)?;
         self.take_end(lower.as_bytes())
+    }
+
+    /// Takes a tag that stands in front at a place, where markup is read.
+    pub(crate) fn take_tag(
+        &mut self,
+        alloc: Global,
+        room: &mut Vec<AttributeEntry>,
+        start: usize,
+        attributes: &[AttributePlace],
+        tag: TagFront,
+    ) -> Result<(), GrowError>
+        requires { IsTagRead self.old.path.store.page.now start attributes.now tag }
+        ensures ok { OnOk result ((emits : List Emission) →
+            AreEmits Data (piece_at self.old.path.store.page.now start tag.end) tag.kind emits →
+            builder_of self.new ≡ taken builder (builder_of self.old) emits) }
+        ensures page { (token_of self.new).page ≡ (token_of self.old).page }
+    {
+        match tag.kind {
+            TokenKind::StartTag => self.take_start_tag(alloc, room, attributes, tag),
+            TokenKind::EndTag => self.take_end_tag(alloc, tag.name),
+            _ => Ok(()),
+        }
     }
 }

@@ -135,6 +135,7 @@ pub(crate) fn is_decisive(space: Namespace, name: ElementName) -> bool
 }
 
 impl<'n> TagTest<'n> {
+    #[inline(always)]
     fn is(self, store: &Store<'_>, tag: TagEntry) -> bool
         requires within { IsTrue (is_tag store.now tag) }
         requires known { tag.known ≡ name_of (bytes_of store.now tag.name) }
@@ -156,6 +157,7 @@ impl<'n> TagTest<'n> {
     }
 
     /// Whether the tag of a number passes.
+    #[inline(always)]
     pub(crate) fn passes(self, store: &Store<'_>, number: u32) -> bool
         requires { IsTrue (is_tag_number store.now number) }
         ensures { result ≡ tag_test_of self.entry (tag_at store.now number) }
@@ -174,6 +176,7 @@ fn is_implied_tag(store: &Store<'_>, number: u32) -> bool
 }
 
 impl<'n> Test<'n> {
+    #[inline(always)]
     pub(crate) fn passes(self, store: &Store<'_>, frame: Frame) -> bool
         requires { IsTrue (is_tag_number store.now frame.tag) }
         ensures { result ≡ test_of self.entry (frame_of store.now frame) }
@@ -190,6 +193,7 @@ impl<'n> Test<'n> {
     }
 
     /// Whether it passes, or whether it doesn't.
+    #[inline(always)]
     pub(crate) fn passes_or_not(self, is_other: bool, store: &Store<'_>, frame: Frame) -> bool
         requires { IsTrue (is_tag_number store.now frame.tag) }
         ensures { result ≡ test_or_other is_other self.entry (frame_of store.now frame) }

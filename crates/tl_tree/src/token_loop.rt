@@ -1,7 +1,7 @@
 //! A token, which is reprocessed as long as the rules say so (13.2.6).
 ghost use Rattle.std.specs.Prelude.{IfOk, OnOk, ◌≡◌};
 ghost use Rattle.tl_dom_spec.specs.Builder.{Again, repeated};
-ghost use Rattle.tl_dom_spec.specs.Dispatcher.{bound, calm, dispatch, is_line_feed, starts_behind};
+ghost use Rattle.tl_dom_spec.specs.Dispatcher.{bound, calm, dispatch, is_line_feed, marks_behind};
 ghost use Rattle.tl_tree.specs.Inner.Builders.{Said, builder_of, token_of, token_view};
 ghost use Rattle.tl_tree.specs.Inner.Taking.{is_skipped, taken, token_taken};
 
@@ -34,6 +34,7 @@ impl<'a> Builder<'a> {
     }
 
     // Takes a token by the rules, again and again.
+    #[inline(always)]
     fn process(&mut self, token: Token<'_>) -> Result<(), GrowError>
         ensures ok { OnOk result (builder_of self.new
             ≡ repeated (bound (builder_of self.old))
@@ -63,6 +64,7 @@ impl<'a> Builder<'a> {
     }
 
     // Takes a token by the rules, where it is no line feed that is skipped.
+    #[inline(always)]
     fn take(&mut self, token: Token<'_>) -> Result<(), GrowError>
         ensures ok { OnOk result (builder_of self.new
             ≡ taken (builder_of self.old) (token_view token.entry (token_of self.old))) }
@@ -75,37 +77,38 @@ impl<'a> Builder<'a> {
         self.process(token)
     }
 
-    // The number of the next start tag, once this token is taken.
+    // How many marks were taken, once this token is.
     #[tactic(auto, unfolding(crate::specs::Inner::Builders::builder_of))]
-    fn starts_behind(&self, token: Token<'_>) -> Result<u32, GrowError>
-        ensures { IfOk result (λ starts. starts
-            ≡ starts_behind (builder_of self.now).starts
+    fn marks_behind(&self, token: Token<'_>) -> Result<u32, GrowError>
+        ensures { IfOk result (λ marks. marks
+            ≡ marks_behind (builder_of self.now).marks
             (token_view token.entry (token_of self.now))) }
     {
         match token {
-            Token::Start { .. } => self.starts.checked_add(1).ok_or(GrowError::TooLarge),
-            _ => Ok(self.starts),
+            Token::Character(_) | Token::EndOfFile => Ok(self.marks),
+            _ => self.marks.checked_add(1).ok_or(GrowError::TooLarge),
         }
     }
 
-    // How many start tags were taken.
-    fn set_starts(&mut self, starts: u32)
-        ensures ok { builder_of self.new ≡ record (builder_of self.old) { starts = starts } }
+    // How many marks were taken.
+    fn set_marks(&mut self, marks: u32)
+        ensures ok { builder_of self.new ≡ record (builder_of self.old) { marks = marks } }
         ensures token { token_of self.new ≡ token_of self.old }
     {
-        self.starts = starts;
+        self.marks = marks;
     }
 
-    /// Takes a token, where a start tag has its number already.
+    /// Takes a token, where a mark has its number already.
+    #[inline(always)]
     pub(crate) fn take_token(&mut self, token: Token<'_>) -> Result<(), GrowError>
         ensures ok { OnOk result (builder_of self.new
             ≡ token_taken (builder_of self.old) (token_view token.entry (token_of self.old))) }
         ensures token { token_of self.new ≡ token_of self.old }
     {
-        let starts = self.starts_behind(token)?;
+        let marks = self.marks_behind(token)?;
         self.take(token)?;
         self.count_token()?;
-        self.set_starts(starts);
+        self.set_marks(marks);
         Ok(())
     }
 }

@@ -5,7 +5,7 @@ ghost use Rattle.std.specs.Prelude.{length, ◌<◌, ◌^◌};
 ghost use Rattle.tl_tree.specs.Inner.RowView.{are_in_order, row_is_within};
 
 use crate::row::Row;
-use crate::span::Span;
+use crate::source::Bounds;
 use crate::store::Store;
 
 /// The tree of a page: its nodes in the order of the page, each of which is a row with a number.
@@ -15,8 +15,8 @@ use crate::store::Store;
 pub struct Tree<'p> {
     pub(crate) store: Store<'p>,
     pub(crate) rows: Vec<Row>,
-    /// Where the start tags of the page stand, one after the other.
-    pub(crate) sources: Vec<Span>,
+    /// Where the page begins, and where its marks stand, one after the other.
+    pub(crate) sources: Vec<Bounds>,
     pub(crate) is_quirks: bool,
     ghost few: { length rows.items < 2 ^ 32 },
     ghost rows_within: { IsTrue

@@ -4,6 +4,7 @@ use Rattle.std.specs.Prelude.{List, map, reverse, ℕ}
 use Rattle.tl_html_tokens.specs.Modes.{state_of}
 use Rattle.tl_html_spec.specs.Doctypes as doctypes
 use Rattle.tl_dom_spec.specs.Builder as dom
+use Rattle.tl_dom_spec.specs.Marks.{Marked, marked}
 use Rattle.tl_dom_spec.specs.Tags.{Tag}
 use Rattle.tl_tree.specs.Inner.Active.{active_of}
 use Rattle.tl_tree.specs.Inner.Frames.{path_of}
@@ -40,17 +41,18 @@ builder_of b = record {
   tokens = b.tokens;
   added = b.added;
   excess = b.excess;
-  starts = b.starts;
+  marks = b.marks;
   flags = flags_of b.flags;
 }
 
 -- the page, and what the token that is processed says: the tag where it is a start tag, the text
--- where it is a comment, and the doctype where it is one
+-- where it is a comment, and the doctype where it is one; and the number of marks before these two
 pub record Said : Type 0 where
   pub page : List ℕ
   pub tag : Tag
   pub text : List ℕ
   pub doctype : doctypes.Doctype
+  pub source : ℕ
 
 unfoldable pub token_of : Builder → Said
 token_of b = record {
@@ -58,7 +60,14 @@ token_of b = record {
   tag = tag_at b.path.store b.tag;
   text = bytes_of b.path.store b.text;
   doctype = doctype_at b.path.store b.doctype;
+  source = b.source;
 }
+
+abbrev pub comment_of : Said → Marked (List ℕ)
+comment_of said = marked said.source said.text
+
+abbrev pub doctype_of : Said → Marked doctypes.Doctype
+doctype_of said = marked said.source said.doctype
 
 -- what becomes of a token, with the builder afterwards
 abbrev pub outcome_of : Outcome → dom.Builder → dom.Outcome
@@ -70,6 +79,6 @@ abbrev pub token_view : Token → Said → dom.Token
 token_view (Character byte) said = dom.a_character byte
 token_view (Start group closes) said = dom.a_start (group_view group) said.tag closes
 token_view (End group name) said = dom.an_end (group_view group) name.now
-token_view Comment said = dom.a_comment said.text
-token_view Doctype said = dom.a_doctype said.doctype
+token_view Comment said = dom.a_comment (comment_of said)
+token_view Doctype said = dom.a_doctype (doctype_of said)
 token_view EndOfFile said = dom.end_of_file

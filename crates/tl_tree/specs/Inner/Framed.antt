@@ -28,8 +28,8 @@ are_distinct (f ∷ frames) = not (list_any (is_numbered f.number) frames) && ar
 -- whether a node goes to the end of what is next on the path
 abbrev pub goes_here : Place → Bool
 goes_here Here = true
-goes_here (Into mark) = false
-goes_here (Behind mark) = false
+goes_here (Into number) = false
+goes_here (Behind number) = false
 goes_here IntoHead = false
 
 abbrev pub is_here : Frame → Bool

@@ -16,8 +16,8 @@ use Rattle.tl_tree.specs.declared.test.Test.TheVariants.{HtmlPlace, ImpliedBut, 
 
 abbrev pub place_of : Place → dom.Place
 place_of Here = dom.here
-place_of (Into mark) = dom.into mark.number
-place_of (Behind mark) = dom.behind mark.number
+place_of (Into number) = dom.into number
+place_of (Behind number) = dom.behind number
 place_of IntoHead = dom.into_head
 
 -- with what goes to the end of the `head` among them

@@ -32,7 +32,7 @@ is_head_node s _ = false
 abbrev pub is_plain : Store → Node → Bool
 is_plain s (Text span) = true
 is_plain s (Comment span) = true
-is_plain s (Doctype number) = true
+is_plain s (Doctype number source) = true
 is_plain s (Element tag below) = not (is_head (tag_at s tag))
 is_plain s (Joined second) = false
 

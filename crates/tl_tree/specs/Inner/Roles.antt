@@ -1,20 +1,10 @@
 -- What an element is to searches of the stack of open elements.
-use Rattle.std.specs.Char.{to_ascii_lowercase}
-use Rattle.std.specs.Prelude.{Bool, List, [], codes, not, true, ℕ, ◌%◌, ◌&&◌, ◌*◌, ◌+◌, ◌==◌, ◌||◌, ◌∷◌}
+use Rattle.std.specs.Prelude.{Bool, codes, not, true, ℕ, ◌&&◌, ◌==◌, ◌||◌}
 use Rattle.tl_dom_spec.specs.Tags.{Tag, is_any, is_html, is_item_bound, is_scope, is_special}
 use Rattle.tl_tree.specs.declared.role.Entered.{Entered}
 use Rattle.tl_tree.specs.declared.role.Kind.{Kind}
 use Rattle.tl_tree.specs.declared.role.Kind.TheVariants.{Decisive, Html, ItemBound, Scope, Special}
 use Rattle.tl_tree.specs.declared.role.Role.{Role}
-
--- which of 4,093 lists a name is in, in lower case
-abbrev pub bucket_from : ℕ → List ℕ → ℕ
-bucket_from so_far [] = so_far
-bucket_from so_far (byte ∷ bytes) =
-    bucket_from ((so_far * 257 + to_ascii_lowercase byte) % 4093) bytes
-
-abbrev pub bucket_of : List ℕ → ℕ
-bucket_of name = bucket_from 0 name
 
 -- what may decide the insertion mode (13.2.4.1)
 abbrev pub is_decisive : Tag → Bool
@@ -23,15 +13,16 @@ is_decisive t =
     (codes "td th tr tbody thead tfoot caption colgroup table template head body frameset html")
     t
 
--- `search` is counted as a special element: where it isn't one, a search looks at it too
-abbrev pub role_of : Tag → Role
-role_of t = record {
+-- where this is the number of its name. `search` is counted as a special element: where it isn't
+-- one, a search looks at it too
+abbrev pub role_of : Tag → ℕ → Role
+role_of t number = record {
   is_scope = is_scope t;
   is_item_bound = is_item_bound true t;
   is_special = is_special true t;
   is_decisive = is_decisive t;
   is_html = is_html t;
-  bucket = bucket_of t.name;
+  name = number;
 }
 
 abbrev pub is_of : Kind → Role → Bool
@@ -55,7 +46,7 @@ is_within role other =
     && (not role.is_html || other.is_html)
 
 abbrev pub is_elsewhere : ℕ → Entered → Bool
-is_elsewhere bucket entered = not (entered.role.bucket == bucket)
+is_elsewhere name entered = not (entered.role.name == name)
 
 abbrev pub is_numbered : ℕ → Entered → Bool
 is_numbered number entered = entered.number == number

@@ -1,5 +1,6 @@
 -- What rows stand for, and which of them hold numbers in range.
 use Rattle.std.specs.Prelude.{Bool, List, None, Option, Some, [], drop, nat_le, nat_lt, suc, take, true, zero, ℕ, ◌&&◌, ◌∷◌}
+use Rattle.tl_dom_spec.specs.Marks.{marked}
 use Rattle.tl_tree.specs.Inner.Gathering.{Flat, flat}
 use Rattle.tl_tree.specs.Inner.Store.{doctype_at, tag_at}
 use Rattle.tl_tree.specs.Inner.Within.{Sizes, span_is_within}
@@ -13,9 +14,9 @@ use Rattle.tl_tree.specs.declared.store.Store.{Store}
 abbrev pub held_is_within : Sizes → Held → Bool
 held_is_within z (Element tag) = nat_lt tag z.tags
 held_is_within z Contents = true
-held_is_within z (Text span) = span_is_within z.page z.side span
-held_is_within z (Comment span) = span_is_within z.page z.side span
-held_is_within z (Doctype n) = nat_lt n z.doctypes
+held_is_within z (Text own) = span_is_within z.page z.side own.span
+held_is_within z (Comment own) = span_is_within z.page z.side own.span
+held_is_within z (Doctype n source) = nat_lt n z.doctypes
 
 abbrev pub row_is_within : Sizes → Row → Bool
 row_is_within z row = held_is_within z row.held
@@ -28,9 +29,9 @@ bytes_in text span = take span.len (drop span.start text)
 abbrev pub held_in : Store → List ℕ → Held → rows.Node
 held_in s text (Element tag) = rows.an_element (tag_at s tag)
 held_in s text Contents = rows.contents
-held_in s text (Text span) = rows.a_text (bytes_in text span)
-held_in s text (Comment span) = rows.a_comment (bytes_in text span)
-held_in s text (Doctype n) = rows.a_doctype (doctype_at s n)
+held_in s text (Text own) = rows.a_text (marked own.source (bytes_in text own.span))
+held_in s text (Comment own) = rows.a_comment (marked own.source (bytes_in text own.span))
+held_in s text (Doctype n source) = rows.a_doctype (marked source (doctype_at s n))
 
 -- a number and one more, or 0 for none
 abbrev pub parent_of : ℕ → Option ℕ

@@ -53,14 +53,15 @@ is_limit_kept kind entries =
     []
     entries
 
--- what it keeps of its own bucket
-abbrev pub is_bucket_kept : List Entry → Bool
-is_bucket_kept entries =
+-- what it keeps of its own name
+abbrev pub is_name_kept : List Entry → Bool
+is_name_kept entries =
     are_kept
-    (λ (entry : Entry). is_elsewhere entry.own.role.bucket)
-    (λ (entry : Entry). entry.bucket)
+    (λ (entry : Entry). is_elsewhere entry.own.role.name)
+    (λ (entry : Entry). entry.name)
     []
     entries
 
-abbrev pub has_bucket : Entry → Bool
-has_bucket entry = nat_lt entry.own.role.bucket 4093
+-- its name is one of those of which there are so many limits
+abbrev pub has_name : ℕ → Entry → Bool
+has_name count entry = nat_lt entry.own.role.name count

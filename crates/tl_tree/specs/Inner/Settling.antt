@@ -3,6 +3,7 @@ use Rattle.std.specs.Bool.{IsTrue}
 use Rattle.std.specs.List.{list_all}
 use Rattle.std.specs.Prelude.{Bool, List, None, Option, Some, [], length, map, reverse, slice_index_or, ℕ, ◌&&◌, ◌+◌, ◌++◌, ◌<◌, ◌^◌, ◌≡◌, ◌∷◌}
 use Rattle.tl_dom_spec.specs.HtmlForest.{before, no_trees}
+use Rattle.tl_dom_spec.specs.Marks.{Marked, marked}
 use Rattle.tl_dom_spec.specs.Path.{Nodes}
 use Rattle.tl_tree.specs.Inner.Gathering.{Flat, Gathered, closed, flat, gathered}
 use Rattle.tl_tree.specs.Inner.RowView.{bytes_in, flat_in, held_in, row_in, row_is_within}
@@ -48,15 +49,19 @@ abbrev pub text_of_pieces : Store → List Span → List ℕ
 text_of_pieces s [] = []
 text_of_pieces s (piece ∷ pieces) = text_of_pieces s pieces ++ bytes_of s piece
 
-abbrev pub pending_of : Store → List Span → Option (List ℕ)
-pending_of s [] = None
-pending_of s (piece ∷ pieces) = Some (text_of_pieces s (piece ∷ pieces))
+-- with the number of marks before the first one
+abbrev pub pending_of : Store → ℕ → List Span → Option (Marked (List ℕ))
+pending_of s source [] = None
+pending_of s source (piece ∷ pieces) = Some (marked source (text_of_pieces s (piece ∷ pieces)))
 
 abbrev pub flats_of : Settling → List Flat
 flats_of g = map (flat_in g.store.now (text_with g.store.now g.copied.items)) g.rows.items
 
 abbrev pub state_of : Settling → Gathered
-state_of g = record { pending = pending_of g.store.now g.pieces.items; rows = flats_of g }
+state_of g = record {
+  pending = pending_of g.store.now g.source g.pieces.items;
+  rows = flats_of g;
+}
 
 -- What is to be written
 
@@ -112,6 +117,7 @@ pub record Pushes (old new : Settling) (held : Held) (behind : ℕ) : Type 0 whe
       ++ flat (held_in old.store.now (text_with old.store.now old.copied.items) held) behind ∷ []
   pub copied : new.copied.items ≡ old.copied.items
   pub pieces : new.pieces.items ≡ old.pieces.items
+  pub source : new.source ≡ old.source
   pub stack : new.stack.items ≡ old.stack.items
 
 -- bytes that are what the pieces say
@@ -126,6 +132,7 @@ pub record Copies (old new : Settling) (span : Span) : Type 0 where
       ≡ text_of_pieces old.store.now old.pieces.items
   pub rows : flats_of new ≡ flats_of old
   pub pieces : new.pieces.items ≡ old.pieces.items
+  pub source : new.source ≡ old.source
   pub stack : new.stack.items ≡ old.stack.items
 
 -- another state, and as much to follow

@@ -1,6 +1,7 @@
 -- What a store stands for, in words of `tl_dom_spec`, and what it is to grow.
 use Rattle.std.specs.Option.{option_map}
 use Rattle.std.specs.Prelude.{Bool, List, None, Option, Some, [], drop, length, map, nat_le, nat_lt, slice_index_or, suc, take, zero, ℕ, ◌++◌, ◌≡◌, ◌∷◌}
+use Rattle.tl_dom_spec.specs.Marks.{marked}
 use Rattle.tl_dom_spec.specs.Path.{Nodes, and_comment, and_doctype, and_element, and_text, joined, no_nodes}
 use Rattle.tl_dom_spec.specs.Tags as dom
 use Rattle.tl_html_spec.specs.Doctypes as doctypes
@@ -120,9 +121,9 @@ doctype_at s n =
 
 -- a node alone, where the first of the rows is that of the number 0
 abbrev pub node_in : Store → List Nodes → Node → Nodes
-node_in s rows (Text span) = and_text no_nodes (bytes_of s span)
-node_in s rows (Comment span) = and_comment no_nodes (bytes_of s span)
-node_in s rows (Doctype n) = and_doctype no_nodes (doctype_at s n)
+node_in s rows (Text own) = and_text no_nodes (marked own.source (bytes_of s own.span))
+node_in s rows (Comment own) = and_comment no_nodes (marked own.source (bytes_of s own.span))
+node_in s rows (Doctype n source) = and_doctype no_nodes (marked source (doctype_at s n))
 node_in s rows (Element tag below) =
     and_element no_nodes (tag_at s tag) (slice_index_or rows below no_nodes)
 node_in s rows (Joined second) = slice_index_or rows second no_nodes

@@ -1,7 +1,7 @@
 -- What is done with a token that has its number.
 use Rattle.std.specs.Prelude.{Bool, if◌then◌else◌, ◌&&◌}
 use Rattle.tl_dom_spec.specs.Builder.{Again, Builder, Token, repeated}
-use Rattle.tl_dom_spec.specs.Dispatcher.{bound, calm, count_token, dispatch, is_line_feed, starts_behind}
+use Rattle.tl_dom_spec.specs.Dispatcher.{bound, calm, count_token, dispatch, is_line_feed, marks_behind}
 
 abbrev pub is_skipped : Builder → Token → Bool
 is_skipped b token = b.skips && is_line_feed token
@@ -14,4 +14,4 @@ taken b token =
 -- and afterwards: `token_done` of the token without a number
 abbrev pub token_taken : Builder → Token → Builder
 token_taken b token =
-    record (count_token (taken b token)) { starts = starts_behind b.starts token }
+    record (count_token (taken b token)) { marks = marks_behind b.marks token }

@@ -9,6 +9,8 @@ use Rattle.tl_tree.specs.declared.entries.AttributeEntry.{AttributeEntry}
 use Rattle.tl_tree.specs.declared.entries.AttributeList.{AttributeList}
 use Rattle.tl_tree.specs.declared.entries.DoctypeEntry.{DoctypeEntry}
 use Rattle.tl_tree.specs.declared.entries.TagEntry.{TagEntry}
+use Rattle.tl_tree.specs.Inner.MetNames.{number_in}
+use Rattle.tl_tree.specs.declared.met_names.MetNames.{MetNames}
 use Rattle.tl_tree.specs.declared.span.Span.{Span}
 
 -- how much there is of each
@@ -45,9 +47,9 @@ doctype_is_within page side d =
 
 -- where there are so many rows
 abbrev pub node_is_within : Sizes → ℕ → Node → Bool
-node_is_within sizes rows (Text s) = span_is_within sizes.page sizes.side s
-node_is_within sizes rows (Comment s) = span_is_within sizes.page sizes.side s
-node_is_within sizes rows (Doctype n) = nat_lt n sizes.doctypes
+node_is_within sizes rows (Text own) = span_is_within sizes.page sizes.side own.span
+node_is_within sizes rows (Comment own) = span_is_within sizes.page sizes.side own.span
+node_is_within sizes rows (Doctype n source) = nat_lt n sizes.doctypes
 node_is_within sizes rows (Element tag below) = nat_lt tag sizes.tags && nat_le below rows
 node_is_within sizes rows (Joined second) = nat_le second rows
 
@@ -66,3 +68,14 @@ known_of t = t.known
 
 abbrev pub known_in : List ℕ → TagEntry → ElementName
 known_in text t = name_of (take t.name.len (drop t.name.start text))
+
+-- the number that a tag has for its name in any case, and the one that its bytes have
+abbrev pub number_of : TagEntry → Option ℕ
+number_of t = Some t.number
+
+abbrev pub numbered_in : MetNames → List ℕ → TagEntry → Option ℕ
+numbered_in names text t = number_in names (take t.name.len (drop t.name.start text))
+
+-- the key that an attribute has in a text
+abbrev pub key_in : List ℕ → AttributeEntry → List ℕ
+key_in text a = take a.key.len (drop a.key.start text)

@@ -1,50 +1,43 @@
-use Rattle.std.proofs.Common.{List, ap, ap₂, subst, sym, take, ℕ, ◌∙◌, ◌≡◌}
-use Rattle.tl_html_parts.specs.Parts.{name_of, value_of}
-use Rattle.tl_html_parts.specs.Places.{IsAttributeAt, IsNext, IsPart, part_in}
-use Rattle.tl_html_spec.specs.HtmlTokenizer.{with_attribute}
+use Rattle.std.proofs.Common.{List, ap, ap₂, get_or, length, map, subst, sym, take, ℕ, ◌+◌, ◌<◌, ◌∙◌, ◌≡◌}
+use Rattle.std.proofs.lemmas.List.{take_more}
+use Rattle.tl_dom_spec.specs.Tags as dom
+use Rattle.tl_html_parts.specs.Parts.{attributes_of, name_of, value_of}
+use Rattle.tl_html_parts.specs.Places.{IsPart, pairs_in, part_in}
+use Rattle.tl_html_parts.specs.declared.place.AttributePlace.{AttributePlace}
+use Rattle.tl_html_parts.specs.declared.place.PartPlace.{PartPlace}
+use Rattle.tl_html_spec.specs.HtmlTokenizer.{OpenTag, with_attribute}
 use Rattle.tl_tree.proofs.Grown.{grows_trans}
-use Rattle.tl_tree.proofs.SaidTags.{all-read, one-read, part-before, part-on}
+use Rattle.tl_tree.proofs.SaidTags.{one-more}
 use Rattle.tl_tree.specs.Inner.Said.{attributes_so_far}
 use Rattle.tl_tree.proofs.said_attributes.put_attributes.Goals as goal
 
+-- a part of the same page
+part-of : (said : List ℕ → List ℕ) (page now : List ℕ) (p : PartPlace) → now ≡ page → IsPart said page p → IsPart said now p
+part-of said page now p e h = subst (λ (q : List ℕ). IsPart said q p) (sym e) h
+
+-- one attribute more, which was put from the same page
+put-more : (page now : List ℕ) (xs : List AttributePlace) (i : ℕ) (d : AttributePlace) (own all : List dom.Attribute) → i < length xs → now ≡ page → own ≡ map dom.plain_attribute (attributes_of (pairs_in page (take i xs))) →
+    ((tag : OpenTag) → own ≡ attributes_so_far tag → all ≡ attributes_so_far (with_attribute tag (name_of (part_in now (get_or xs i d).key)) (value_of (part_in now (get_or xs i d).value)))) →
+    all ≡ map dom.plain_attribute (attributes_of (pairs_in page (take (i + 1) xs)))
+put-more page now xs i d own all l same stands put =
+    let a : AttributePlace = get_or xs i d in
+    one-more page (take i xs) (take (i + 1) xs) a own all (take_more xs i d l) stands
+    (λ tag e. put tag e ∙ ap₂ (λ (k v : List ℕ). attributes_so_far (with_attribute tag (name_of k) (value_of v))) (ap (λ (p : List ℕ). part_in p a.key) same) (ap (λ (p : List ℕ). part_in p a.value) same))
+
 pub put_attribute-requires-clause-key : goal.put_attribute-requires-clause-key
 put_attribute-requires-clause-key c =
-    let page : List ℕ = c.args.store.now.page.now in
-    let text : List ℕ = take c.args.end page in
-    let found = c.in-Attribute.attribute in
-    let next : IsAttributeAt text c.loop-attribute.at found = subst (IsNext text c.loop-attribute.at) c.in-Attribute.is c.next_part.ensures in
-    subst (λ (p : List ℕ). IsPart name_of p found.key) (sym c.loop-attribute.invariant.grows.page) (part-on page c.args.end name_of found.key next.key)
+    part-of name_of _ _ _ c.loop-attribute.invariant.grows.page (c.requires c.loop-attribute.attribute-index _ c.loop-attribute-test.true).0
 
 pub put_attribute-requires-clause-value : goal.put_attribute-requires-clause-value
 put_attribute-requires-clause-value c =
-    let page : List ℕ = c.args.store.now.page.now in
-    let text : List ℕ = take c.args.end page in
-    let found = c.in-Attribute.attribute in
-    let next : IsAttributeAt text c.loop-attribute.at found = subst (IsNext text c.loop-attribute.at) c.in-Attribute.is c.next_part.ensures in
-    subst (λ (p : List ℕ). IsPart value_of p found.value) (sym c.loop-attribute.invariant.grows.page) (part-on page c.args.end value_of found.value next.value)
+    part-of value_of _ _ _ c.loop-attribute.invariant.grows.page (c.requires c.loop-attribute.attribute-index _ c.loop-attribute-test.true).1
 
 pub loop-attribute-preserved : goal.loop-attribute-preserved
 loop-attribute-preserved c =
-    let page : List ℕ = c.args.store.now.page.now in
-    let end : ℕ = c.args.end in
-    let text : List ℕ = take end page in
     let own = c.loop-attribute.invariant in
-    let found = c.in-Attribute.attribute in
-    let next : IsAttributeAt text c.loop-attribute.at found = subst (IsNext text c.loop-attribute.at) c.in-Attribute.is c.next_part.ensures in
-    let key : part_in c.loop-attribute.store.page.now found.key ≡ part_in text found.key =
-    ap (λ (p : List ℕ). part_in p found.key) own.grows.page ∙ sym (part-before page end name_of found.key next.key) in
-    let value : part_in c.loop-attribute.store.page.now found.value ≡ part_in text found.value =
-    ap (λ (p : List ℕ). part_in p found.value) own.grows.page ∙ sym (part-before page end value_of found.value next.value) in
     record {
-      read = one-read text c.args.from c.loop-attribute.at found _ _ own.read next
-          (λ tag e. c.in_ok-put_attribute-in-Attribute.ensures.stands tag e
-          ∙ ap₂ (λ (k v : List ℕ). attributes_so_far (with_attribute tag (name_of k) (value_of v))) key value);
-      keys = c.in_ok-put_attribute-in-Attribute.ensures.keys;
-      within = c.in_ok-put_attribute-in-Attribute.ensures.within;
+      stands = put-more c.args.store.now.page.now c.loop-attribute.store.page.now c.args.attributes.now c.loop-attribute.attribute-index _ _ _ c.loop-attribute-test.true own.grows.page own.stands c.in_ok-put_attribute.ensures.stands;
+      keys = c.in_ok-put_attribute.ensures.keys;
+      within = c.in_ok-put_attribute.ensures.within;
       grows = grows_trans c.args.store.now c.loop-attribute.store c.put_attribute.new.store own.grows c.put_attribute.ensures.grows;
     }
-
-pub returns-in-End-clause-read : goal.returns-in-End-clause-read
-returns-in-End-clause-read c =
-    let text : List ℕ = take c.args.end c.args.store.now.page.now in
-    all-read text c.args.from c.loop-attribute.at c.in-End.closes _ c.loop-attribute.invariant.read (subst (IsNext text c.loop-attribute.at) c.in-End.is c.next_part.ensures)

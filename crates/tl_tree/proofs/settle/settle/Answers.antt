@@ -13,12 +13,12 @@ use Rattle.tl_tree.proofs.settle.settle.Goals as goal
 
 pub seat-requires-clause-ends : goal.seat-requires-clause-ends
 seat-requires-clause-ends c =
-    let init : Settling = record { store = c.args.store; copied = c.new.result; rows = c.new-2.result; pieces = c.new-3.result; stack = c.new-4.result } in
-    final-ends init c.run.new.self c.args.row c.as_mut_slice.result.now c.in_ok-run.ensures c.new-3.ensures.items c.new-2.ensures.items (c.as_mut_slice.ensures.value ∙ c.reverse.ensures.items)
+    let init : Settling = record { store = c.args.store; copied = c.new.result; rows = c.in_ok-rows.rows; pieces = c.new-2.result; source = 0; stack = c.new-3.result } in
+    final-ends init c.run.new.self c.args.row c.as_mut_slice.result.now c.in_ok-run.ensures c.new-2.ensures.items c.in_ok-rows.ensures.items (c.as_mut_slice.ensures.value ∙ c.reverse.ensures.items)
 
 pub returns : goal.returns
 returns c =
-    let init : Settling = record { store = c.args.store; copied = c.new.result; rows = c.new-2.result; pieces = c.new-3.result; stack = c.new-4.result } in
+    let init : Settling = record { store = c.args.store; copied = c.new.result; rows = c.in_ok-rows.rows; pieces = c.new-2.result; source = 0; stack = c.new-3.result } in
     let final = c.run.new.self in
     let turned = c.as_mut_slice.result.now in
     let is = c.as_mut_slice.ensures.value ∙ c.reverse.ensures.items in
@@ -33,5 +33,5 @@ returns c =
       short = final-short init final _ t;
       few = subst (λ v. length v < 2 ^ 32) back (final-few init final _ turned c.seat.new.rows t is c.seat.ensures);
       within = subst (λ v. IsTrue (list_all (row_is_within (sizes_with s final.copied.items)) v)) back (final-within init final _ turned c.seat.new.rows t is c.seat.ensures);
-      rows = subst (λ v. map (row_in s (text_with s final.copied.items)) v ≡ rows.rows_of (before (nodes_of s c.args.row) no_trees)) back (final-rows init final c.args.row turned c.seat.new.rows t c.new-3.ensures.items c.new-2.ensures.items is c.seat.ensures);
+      rows = subst (λ v. map (row_in s (text_with s final.copied.items)) v ≡ rows.rows_of (before (nodes_of s c.args.row) no_trees)) back (final-rows init final c.args.row turned c.seat.new.rows t c.new-2.ensures.items c.in_ok-rows.ensures.items is c.seat.ensures);
     }

@@ -1,4 +1,3 @@
-use Rattle.std.proofs.Common.{ap, ◌∙◌, ℕ}
 use Rattle.std.proofs.lemmas.Result.{on_ok_weaker}
 use Rattle.tl_dom_spec.specs.Builder.{with_more}
 use Rattle.tl_dom_spec.specs.Path.{at_number}
@@ -23,9 +22,7 @@ returns-clause-ok c =
     let next = c.add_attributes.ensures.next in
     let more = retagged_by (with_more (tag_at b.path.store b.tag).attributes) in
     on_ok_weaker c.add_attributes.result
-    (λ is.
-    path-changed b q (known-kept b q g next) (at_number c.args.number more (path_of b.path)) b.path.next g next
-    (is ∙ ap (λ (k : ℕ). at_number k more (path_of b.path)) c.new-mark.ensures))
+    (path-changed b q (known-kept b q g next) (at_number c.args.number more (path_of b.path)) b.path.next g next)
     c.add_attributes.ensures.path
 
 pub returns-clause-token : goal.returns-clause-token

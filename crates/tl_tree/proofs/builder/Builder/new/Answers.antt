@@ -31,11 +31,12 @@ returns-clause-start c =
       tokens = 0;
       added = 0;
       excess = 0;
-      starts = 0;
+      marks = 0;
       flags = c.args.flags;
       tag = 0;
       text = record { start = 0; len = 0 };
       doctype = c.in_ok-doctype.doctype;
+      source = 0;
       hint = 0;
       known = known-new c.add_doctype.new.self c.new-active.result c.new-active.result.greatest_number c.new-active.result.greatest_tag c.in_ok-doctype.doctype (c.new-active.ensures.tallied c.add_doctype.new.self.store) c.new-active.ensures.number c.new-active.ensures.tag (c.add_doctype.ensures.next ∙ c.in_ok-path.ensures.next) c.in_ok-doctype.ensures.within;
     } in

@@ -1,4 +1,5 @@
 use Rattle.std.proofs.lemmas.Result.{on_ok_weaker}
+use Rattle.tl_dom_spec.specs.Marks.{marked}
 use Rattle.tl_dom_spec.specs.Path.{Path, Place, and_comment, no_nodes, put}
 use Rattle.tl_tree.proofs.Built.{known-kept, path-changed, token-kept}
 use Rattle.tl_tree.specs.Inner.Builders.{builder_of, token_of}
@@ -16,7 +17,7 @@ unfolding builder_of node_of token_of
 returns-clause-ok c =
     let b = c.args.self.now in
     let q = c.put.new.self in
-    let placed : Place → Path = λ at. put at (and_comment no_nodes (bytes_of b.path.store b.text)) (path_of b.path) in
+    let placed : Place → Path = λ at. put at (and_comment no_nodes (marked b.source (bytes_of b.path.store b.text))) (path_of b.path) in
     on_ok_weaker c.put.result
     (λ is.
     path-changed b q (known-kept b q c.put.ensures.grows c.put.ensures.next)

@@ -1,4 +1,3 @@
-use Rattle.std.proofs.Common.{ap, ◌∙◌, ℕ}
 use Rattle.std.proofs.lemmas.Result.{on_ok_weaker}
 use Rattle.tl_dom_spec.specs.Path.{taken_out}
 use Rattle.tl_tree.proofs.Built.{known-kept, path-changed, token-kept}
@@ -17,10 +16,8 @@ returns-clause-ok c =
     let b = c.args.self.now in
     let q = c.take_out.new.self in
     on_ok_weaker c.take_out.result
-    (λ is.
-    path-changed b q (known-kept b q c.take_out.ensures.grows c.take_out.ensures.next)
-    (taken_out c.args.number (path_of b.path)) b.path.next c.take_out.ensures.grows c.take_out.ensures.next
-    (is ∙ ap (λ (k : ℕ). taken_out k (path_of b.path)) c.new.ensures))
+    (path-changed b q (known-kept b q c.take_out.ensures.grows c.take_out.ensures.next)
+    (taken_out c.args.number (path_of b.path)) b.path.next c.take_out.ensures.grows c.take_out.ensures.next)
     c.take_out.ensures.ok
 
 pub returns-clause-token : goal.returns-clause-token

@@ -1,5 +1,5 @@
 use Rattle.std.proofs.Common.{List, arith, length, subst, sym, ◌<◌}
-use Rattle.std.proofs.lemmas.Bool.{lt-ltb}
+use Rattle.std.proofs.lemmas.Bool.{lt-ltb, ltb-true}
 use Rattle.tl_dom_spec.specs.Builder.{with_more}
 use Rattle.tl_tree.proofs.Numbered.{absent-number, found-within}
 use Rattle.tl_tree.proofs.Stacked.{merged-path, merged-role}
@@ -14,11 +14,11 @@ use Rattle.tl_tree.proofs.path.FramePath.add_attributes.Goals.{In-Some}
 pub returns-in_default-clause-path : goal.returns-in_default-clause-path
 returns-in_default-clause-path c =
     let p = c.args.self.now in
-    absent-number p c.args.mark.number (retagged_by (with_more (tag_at p.store c.args.other).attributes)) (c.find.ensures.none c.in_default.is)
+    absent-number p c.args.number (retagged_by (with_more (tag_at p.store c.args.other).attributes)) (c.find.ensures.none c.in_default.is)
 
 found-there : (c : In-Some) → c.in-Some.index < length c.args.self.now.frames.items
 found-there c =
-    found-within c.args.self.now.frames.items c.in-Some.index c.args.mark.number c.in-Some.ensures.some
+    found-within c.args.self.now.frames.items c.in-Some.index c.args.number c.in-Some.ensures.some
 
 pub index-requires : goal.index-requires
 index-requires c =
@@ -39,8 +39,13 @@ retag-requires-clause-index c =
 
 pub retag-requires-clause-role : goal.retag-requires-clause-role
 retag-requires-clause-role c =
-    merged-role c.args.self.now c.add_merged_tag.new.self c.in-Some.index c.index.result.now c.in_ok-tag.tag (tag_at c.args.self.now.store c.args.other).attributes c.add_merged_tag.ensures.grows c.add_merged_tag.ensures.frames c.index.ensures (found-there (goal.at.retag-requires-clause-role c).In-Some) c.in_ok-tag.ensures.stands
+    let p = c.args.self.now in
+    let f = c.index.result.now in
+    let there = found-there (goal.at.retag-requires-clause-role c).In-Some in
+    merged-role p c.add_merged_tag.new.self c.in-Some.index f c.in_ok-tag.tag (tag_at p.store c.args.other).attributes c.add_merged_tag.ensures.grows c.add_merged_tag.ensures.frames c.index.ensures there
+    (parts-of p.store f (all-at (is_frame p) p.frames.items c.in-Some.index f f c.index.ensures there p.within)).tag
+    (ltb-true c.in_ok-tag.tag (length c.add_merged_tag.new.self.store.tags.items) c.in_ok-tag.ensures.within) c.in_ok-tag.ensures.stands
 
 pub returns-clause-path : goal.returns-clause-path
 returns-clause-path c =
-    merged-path c.args.self.now c.add_merged_tag.new.self c.retag.new.self c.args.mark.number c.in-Some.index c.index.result.now c.in_ok-tag.tag (tag_at c.args.self.now.store c.args.other).attributes c.add_merged_tag.ensures.grows c.add_merged_tag.ensures.frames c.in-Some.ensures.some c.index.ensures (found-there (goal.at.returns-clause-path c).In-Some) c.in_ok-tag.ensures.stands c.retag.ensures.frames
+    merged-path c.args.self.now c.add_merged_tag.new.self c.retag.new.self c.args.number c.in-Some.index c.index.result.now c.in_ok-tag.tag (tag_at c.args.self.now.store c.args.other).attributes c.add_merged_tag.ensures.grows c.add_merged_tag.ensures.frames c.in-Some.ensures.some c.index.ensures (found-there (goal.at.returns-clause-path c).In-Some) c.in_ok-tag.ensures.stands c.retag.ensures.frames

@@ -5,4 +5,4 @@ use Rattle.tl_tree.proofs.path.FramePath.find.Given as goal
 
 abbrev pub invariant-loop-index : goal.invariant-loop-index
 invariant-loop-index l =
-    list_any (is_numbered l.mark.number) (take l.index l.self.frames.items) ≡ false
+    list_any (is_numbered l.number) (take l.index l.self.frames.items) ≡ false

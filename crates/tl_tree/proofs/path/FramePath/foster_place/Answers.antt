@@ -1,5 +1,4 @@
 use Rattle.std.proofs.Common.{ap, arith, sym, ◌≡◌, ◌∙◌}
-use Rattle.tl_dom_spec.specs.Path as dom
 use Rattle.tl_tree.proofs.Fostered.{fostered-all, fostered-none}
 use Rattle.tl_tree.specs.Inner.Frames.{fostered}
 use Rattle.tl_tree.proofs.path.FramePath.foster_place.Goals as goal
@@ -14,5 +13,4 @@ pub returns : goal.returns
 returns c =
     let p = c.args.self.now in
     let done : c.loop-index.index ≡ 0 = omega arith in
-    ap dom.behind c.new.ensures
-    ∙ sym (c.loop-index.invariant.rest ∙ (ap (fostered p) done ∙ fostered-none p))
+    sym (c.loop-index.invariant.rest ∙ (ap (fostered p) done ∙ fostered-none p))

@@ -1,5 +1,4 @@
-use Rattle.std.proofs.Common.{ap, sym, ◌∙◌}
-use Rattle.tl_dom_spec.specs.Path as dom
+use Rattle.std.proofs.Common.{sym, ◌∙◌}
 use Rattle.tl_tree.proofs.Fostered.{fostered-closed, fostered-on, fostered-table, fostered-template}
 use Rattle.tl_tree.proofs.Sought.{is-opened, is-shut}
 use Rattle.tl_tree.proofs.path.FramePath.foster_place_at.Goals as goal
@@ -11,7 +10,6 @@ returns-then-not-frame-clause-none c = λ _.
 pub returns-then-passes-clause-some : goal.returns-then-passes-clause-some
 returns-then-passes-clause-some c =
     fostered-template c.args.self.now c.args.index c.index-frame.result.now c.index-frame.ensures c.requires (is-opened c.index-frame.result.now.is_open c.if-not-frame.false) (sym c.passes.ensures ∙ c.if-passes.true)
-    ∙ ap dom.behind (sym c.new.ensures)
 
 pub returns-then-passes-2-clause-some : goal.returns-then-passes-2-clause-some
 returns-then-passes-2-clause-some c =

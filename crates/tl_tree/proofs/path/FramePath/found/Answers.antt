@@ -3,8 +3,8 @@ use Rattle.tl_dom_spec.specs.Dispatcher.{found_in}
 use Rattle.tl_tree.proofs.Begun.{found-begun}
 use Rattle.tl_tree.proofs.Skipped.{none-further}
 use Rattle.tl_tree.proofs.StackWalk.{stacked-all}
-use Rattle.tl_tree.specs.Inner.Limits.{is_in_bucket, is_of_kind}
-use Rattle.tl_tree.specs.Inner.Roles.{bucket_of}
+use Rattle.tl_tree.specs.Inner.Limits.{is_lowered, is_of_kind}
+use Rattle.tl_tree.specs.Inner.MetNames.{in_lower_case}
 use Rattle.tl_tree.specs.declared.role.Kind.TheVariants.{Html}
 use Rattle.tl_tree.proofs.path.FramePath.found.Goals as goal
 
@@ -29,5 +29,5 @@ loop-outer-init c =
           ap (found_in name) (stacked-all p c.len.result (omega arith) ∙ c.in-Some.ensures.some)
           ∙ found-begun name p top limit c.min-inner.result c.min-inner.ensures (omega arith)
           (none-further (is_of_kind Html) p c.kind_limit.result limit (omega arith) c.kind_limit.ensures.skips)
-          (none-further (is_in_bucket (bucket_of name)) p c.name_limit.result limit (omega arith) c.name_limit.ensures.skips);
+          (none-further (is_lowered (in_lower_case name)) p c.name_limit.result limit (omega arith) c.name_limit.ensures.skips);
     }

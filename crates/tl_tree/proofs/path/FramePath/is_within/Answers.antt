@@ -1,9 +1,17 @@
-use Rattle.std.proofs.Common.{ap, arith, sym, ◌≡◌, ◌∙◌}
+use Rattle.std.proofs.Common.{ap, arith, length, sym, ◌+◌, ◌-◌, ◌≡◌, ◌∙◌}
 use Rattle.tl_tree.proofs.Begun.{sought-begun, sought-nowhere}
 use Rattle.tl_tree.proofs.Skipped.{none-further}
-use Rattle.tl_tree.proofs.Sought.{sought-none}
+use Rattle.tl_tree.proofs.Sought.{sought-all, sought-none}
 use Rattle.tl_tree.specs.Inner.Frames.{sought, test_of}
 use Rattle.tl_tree.proofs.path.FramePath.is_within.Goals as goal
+
+pub returns-in-Some : goal.returns-in-Some
+returns-in-Some c =
+    let p = c.args.self.now in
+    let some = p.some in
+    let own = p.frames.ok.0 in
+    let end : c.len.result - 1 + 1 ≡ length p.frames.items = omega arith in
+    sym (sought-all (test_of c.args.test) (test_of c.args.bounds) p (c.len.result - 1 + 1) end ∙ c.in-Some.ensures.some)
 
 pub returns-then-first-eq0 : goal.returns-then-first-eq0
 returns-then-first-eq0 c =

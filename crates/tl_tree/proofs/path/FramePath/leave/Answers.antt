@@ -5,13 +5,13 @@ use Rattle.tl_tree.proofs.path.FramePath.leave.Goals as goal
 
 pub close-requires : goal.close-requires
 close-requires c =
-    found-within c.args.self.now.frames.items c.in-Some.index c.args.mark.number c.in-Some.ensures.some
+    found-within c.args.self.now.frames.items c.in-Some.index c.args.number c.in-Some.ensures.some
 
 pub returns-in-Some-clause-path : goal.returns-in-Some-clause-path
 returns-in-Some-clause-path c =
     ap reverse c.close.ensures.frames
-    ∙ changed-number c.args.self.now c.args.mark.number c.in-Some.index closed c.in-Some.ensures.some
+    ∙ changed-number c.args.self.now c.args.number c.in-Some.index closed c.in-Some.ensures.some
 
 pub returns-in-None-clause-path : goal.returns-in-None-clause-path
 returns-in-None-clause-path c =
-    absent-number c.args.self.now c.args.mark.number closed (c.in-None.ensures.none refl)
+    absent-number c.args.self.now c.args.number closed (c.in-None.ensures.none refl)

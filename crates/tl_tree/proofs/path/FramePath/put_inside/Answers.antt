@@ -1,13 +1,24 @@
-use Rattle.std.proofs.Common.{◌∙◌}
-use Rattle.tl_tree.proofs.Entering.{role-kept}
-use Rattle.tl_tree.proofs.Written.{put-inside}
+use Rattle.std.proofs.Common.{List, ap, arith, get_or, refl, sym, ◌∙◌, ◌≡◌}
+use Rattle.tl_dom_spec.specs.Path.{joined}
+use Rattle.tl_tree.proofs.Entering.{same-there}
+use Rattle.tl_tree.proofs.Grown.{grows_refl}
+use Rattle.tl_tree.proofs.Written.{all-at, put-inside, ready-folded}
+use Rattle.tl_tree.specs.Inner.Frames.{is_frame}
+use Rattle.tl_tree.specs.Inner.Store.{node_of, nodes_of}
+use Rattle.tl_tree.specs.declared.frame.Frame.{Frame}
 use Rattle.tl_tree.proofs.path.FramePath.put_inside.Goals as goal
-
-pub write-requires-clause-role : goal.write-requires-clause-role
-write-requires-clause-role c =
-    role-kept c.add.new.self.store c.args.self.now.frames.items c.add.new.self.frames.items c.args.index c.index-frame.result.now c.in_ok-frame.frame _ (c.add.ensures.frames ∙ c.ready.ensures.frames) c.index-frame.ensures c.requires.index c.in_ok-frame.ensures.tag
 
 pub returns-clause-ok : goal.returns-clause-ok
 returns-clause-ok c =
     let p = c.args.self.now in
-    put-inside p c.ready.new.self c.add.new.self c.write.new.self c.args.index c.index-frame.result.now c.in_ok-frame.frame c.in_ok-children.children c.args.node c.ready.ensures.grows c.add.ensures.grows (c.add.ensures.frames ∙ c.ready.ensures.frames) c.write.ensures.store c.write.ensures.frames c.index-frame.ensures c.requires.index c.requires.node c.in_ok-frame.ensures.within c.in_ok-frame.ensures.stands c.in_ok-frame.ensures.behind c.in_ok-children.ensures.stands
+    let i = c.args.index in
+    let f = c.index-frame.result.now in
+    let before = c.index-before.result.now in
+    let late : before.late ≡ 0 = omega arith in
+    let nodes = node_of p.store c.args.node in
+    let is = c.index-frame.ensures ∙ ap (λ (xs : List Frame). get_or xs i f) c.add.ensures.frames in
+    let same = same-there p.frames.items i before f c.index-before.ensures c.requires.index ∙ sym is in
+    put-inside p p c.add.new.self c.write.new.self i f f c.in_ok-children.children c.args.node (grows_refl p.store) c.add.ensures.grows c.add.ensures.frames c.write.ensures.store c.write.ensures.frames is c.requires.index c.requires.node
+    (all-at (is_frame p) p.frames.items i f f is c.requires.index p.within) refl
+    (ready-folded p.store f nodes (ap (λ (it : Frame). it.late) (sym same) ∙ late))
+    (c.in_ok-children.ensures.stands ∙ ap (λ (it : Frame). joined (nodes_of p.store it.children) nodes) same)

@@ -1,7 +1,7 @@
-use Rattle.std.proofs.Common.{ap, refl, ◌∙◌}
+use Rattle.std.proofs.Common.{ap, refl, sym, ◌∙◌}
 use Rattle.tl_tree.proofs.Entering.{role-kept}
-use Rattle.tl_tree.proofs.Stacked.{tag-there, tagged-at}
-use Rattle.tl_tree.specs.Inner.Roles.{role_of}
+use Rattle.tl_tree.proofs.Stacked.{tag-read, tagged-at}
+use Rattle.tl_tree.specs.Inner.Entered.{role_at}
 use Rattle.tl_tree.proofs.path.FramePath.retag.Goals as goal
 
 pub write-requires-clause-role : goal.write-requires-clause-role
@@ -9,7 +9,7 @@ write-requires-clause-role c =
     let p = c.args.self.now in
     let f = c.index-frame.result.now in
     c.requires.role
-    ∙ (ap role_of (tag-there p c.args.index f c.index-frame.ensures c.requires.index)
+    ∙ (ap (role_at p.store) (tag-read p c.args.index f c.index-frame.ensures c.requires.index)
     ∙ role-kept p.store p.frames.items p.frames.items c.args.index f f _ refl c.index-frame.ensures c.requires.index refl)
 
 pub returns-clause-frames : goal.returns-clause-frames

@@ -74,7 +74,7 @@ invariant_of-self-clause-known c =
     let is = c.index-block.ensures ∙ ap (λ (k : ℕ). get_or xs k b) next in
     let new = entered c.turn_known.new.self in
     subst (λ (ys : List Frame). Opens new (map (entered_of p.store) ys)) (sym (set-two xs n (n + 1) x y next within))
-    (known-two p n x y b c.role_at-role.result new within is refl refl c.role_at-role.ensures.stands c.turn_known.ensures)
+    (known-two p n x y b c.role_at-role.result new within is refl refl c.role_at-role.ensures c.turn_known.ensures)
 
 pub returns-clause-frames : goal.returns-clause-frames
 returns-clause-frames c =

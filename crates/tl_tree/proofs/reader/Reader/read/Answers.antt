@@ -41,5 +41,5 @@ pub returns-clause-sources : goal.returns-clause-sources
 returns-clause-sources c =
     on-any c.weigh.result
     (λ begin s.
-    end-sourced c.args.self.now.page.now begin c.read_on.new.self _ _ c.read_on.ensures.page refl
-    (sym (ap (λ (b : Builder). b.starts) c.in_ok-take_token.ensures.ok)) (c.in_ok-read_on.ensures.sources begin s))
+    end-sourced c.args.self.now.page.now begin c.read_on.new.self (builder_of c.take_token.new.self) _ c.read_on.ensures.page refl
+    c.in_ok-read_on.ensures.end c.in_ok-take_token.ensures.ok (c.in_ok-read_on.ensures.sources begin s))

@@ -11,14 +11,13 @@ returns-in_default c =
 pub invariant_of-self-2 : goal.invariant_of-self-2
 invariant_of-self-2 c =
     let s = c.args.self.now in
-    let sound = sound-left c.pop.new.self.items s.entries.items c.in-Some.last s.limits s.buckets.items s.places.items c.in-Some.ensures.items (sound-of s) in
+    let sound = sound-left c.pop.new.self.items s.entries.items c.in-Some.last s.limits s.names.items s.places.items c.in-Some.ensures.items (sound-of s) in
     record {
-      parted = sound.parted;
-      in_buckets = sound.in_buckets;
+      named = sound.named;
       limited = sound.limited;
       sought = sound.sought;
       limits_kept = sound.limits_kept;
-      buckets_kept = sound.buckets_kept;
+      names_kept = sound.names_kept;
       numbered = sound.placed.within;
       placed = sound.placed.here;
     }

@@ -17,14 +17,13 @@ pub invariant_of-self : goal.invariant_of-self
 unfolding entered
 invariant_of-self c =
     let s = c.args.self.now in
-    let sound = sound-place s.entries.items s.limits s.buckets.items s.places.items c.set_place.new.places.items c.args.new.number c.set_place.ensures.longer c.set_place.ensures.others c.requires.new (sound-of s) in
+    let sound = sound-place s.entries.items s.limits s.names.items s.places.items c.set_place.new.places.items c.args.new.number c.set_place.ensures.longer c.set_place.ensures.others c.requires.new (sound-of s) in
     record {
-      parted = sound.parted;
-      in_buckets = sound.in_buckets;
+      named = sound.named;
       limited = sound.limited;
       sought = sound.sought;
       limits_kept = sound.limits_kept;
-      buckets_kept = sound.buckets_kept;
+      names_kept = sound.names_kept;
       numbered = sound.placed.within;
       placed = sound.placed.here;
     }
@@ -58,18 +57,17 @@ invariant_of-self-2 c =
     let places = c.set_place.new.places.items in
     let can = c.if-not-can_turn.false in
     let deep : place + 1 < length entries = omega (arith, c.requires.within, length-map entries (λ (entry : Entry). entry.own)) in
-    let placed = sound-place entries s.limits s.buckets.items s.places.items places new.number c.set_place.ensures.longer c.set_place.ensures.others c.requires.new (sound-of s) in
+    let placed = sound-place entries s.limits s.names.items s.places.items places new.number c.set_place.ensures.longer c.set_place.ensures.others c.requires.new (sound-of s) in
     let sound =
-    subst (λ (limits : Limits). AreSound (turned-entries entries place (moved gone inside) (record { own = new; limits = limits; bucket = place + 1 })) s.limits (set s.buckets.items new.role.bucket (place + 2)) (set places inside.own.number place)) (sym c.raised.ensures)
-    (turned-sound entries place gone inside new deep c.index-gone.ensures c.index-inside.ensures s.limits s.buckets.items places
-    (c.can_turn.ensures.kinds can) (c.can_turn.ensures.bucket can) c.requires.bucket c.in-Ok.ensures.within c.in-Ok.ensures.own c.requires.new placed) in
+    subst (λ (limits : Limits). AreSound (turned-entries entries place (moved gone inside) (record { own = new; limits = limits; name = place + 1 })) s.limits (set s.names.items new.role.name (place + 2)) (set places inside.own.number place)) (sym c.raised.ensures)
+    (turned-sound entries place gone inside new deep c.index-gone.ensures c.index-inside.ensures s.limits s.names.items places
+    (c.can_turn.ensures.kinds can) (c.can_turn.ensures.name can) (c.can_turn.ensures.within can) c.in-Ok.ensures.within c.in-Ok.ensures.own c.requires.new placed) in
     record {
-      parted = sound.parted;
-      in_buckets = sound.in_buckets;
+      named = sound.named;
       limited = sound.limited;
       sought = sound.sought;
       limits_kept = sound.limits_kept;
-      buckets_kept = sound.buckets_kept;
+      names_kept = sound.names_kept;
       numbered = sound.placed.within;
       placed = sound.placed.here;
     }
@@ -84,5 +82,5 @@ returns c =
     let inside = c.index-inside.result.now in
     let deep : place + 1 < length entries = omega (arith, c.requires.within, length-map entries (λ (entry : Entry). entry.own)) in
     turned-all entries place gone inside new deep c.index-gone.ensures c.index-inside.ensures
-    (elements (turned-entries entries place (moved gone inside) (record { own = new; limits = c.raised.result; bucket = place + 1 })))
-    (ap (λ (limits : Limits). elements (turned-entries entries place (moved gone inside) (record { own = new; limits = limits; bucket = place + 1 }))) c.raised.ensures)
+    (elements (turned-entries entries place (moved gone inside) (record { own = new; limits = c.raised.result; name = place + 1 })))
+    (ap (λ (limits : Limits). elements (turned-entries entries place (moved gone inside) (record { own = new; limits = limits; name = place + 1 }))) c.raised.ensures)

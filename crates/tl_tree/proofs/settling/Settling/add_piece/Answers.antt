@@ -23,7 +23,7 @@ returns-in-Some-beside c =
       };
       store = refl;
       state = ap (λ p. let r : Gathered = record { pending = p; rows = flats_of c.args.self.now } in r)
-          (pending-merged s pieces c.args.self.now.pieces.items c.push-in-Some-beside.new.self.items c.args.piece c.in-Some.next c.in-Some-beside.both was is c.in-Some-beside.ensures.1);
+          (pending-merged s c.args.source c.args.self.now.source pieces c.args.self.now.pieces.items c.push-in-Some-beside.new.self.items c.args.piece c.in-Some.next c.in-Some-beside.both was is c.in-Some-beside.ensures.1);
       stack = refl;
     }
 
@@ -45,6 +45,6 @@ returns c =
       };
       store = refl;
       state = ap (λ p. let r : Gathered = record { pending = p; rows = flats_of c.args.self.now } in r)
-          (pending-again s pieces c.args.self.now.pieces.items c.push-2.new.self.items c.push-3.new.self.items c.args.piece c.in-Some.next was is last);
+          (pending-again s c.args.source c.args.self.now.source pieces c.args.self.now.pieces.items c.push-2.new.self.items c.push-3.new.self.items c.args.piece c.in-Some.next was is last);
       stack = refl;
     }

@@ -1,5 +1,6 @@
 use Rattle.std.proofs.Common.{IsTrue, ap, refl, subst, sym, ◌+◌}
 use Rattle.std.proofs.lemmas.Result.{IfOk-weaker}
+use Rattle.tl_dom_spec.specs.Marks.{marked}
 use Rattle.tl_dom_spec.specs.Path.{joined}
 use Rattle.tl_tree.proofs.Goings.{goes-as, goes-before, goes-joined}
 use Rattle.tl_tree.proofs.Settles.{all-last}
@@ -44,7 +45,7 @@ unfolding node_of
 returns-in_ok-add_piece-in-Text c =
     let old = c.args.self.now in
     let s = old.store.now in
-    goes-before old _ c.args.cell.before c.args.cell.node (with_piece (bytes_of s c.in-Text.span) (state_of old)) c.requires.before c.in_ok-add_piece-in-Text.ensures
+    goes-before old _ c.args.cell.before c.args.cell.node (with_piece (marked c.in-Text.piece.source (bytes_of s c.in-Text.piece.span)) (state_of old)) c.requires.before c.in_ok-add_piece-in-Text.ensures
     (ap (λ v. gathered (node_of s v) (state_of old)) (sym c.in-Text.is))
     (ap (held_weight s) c.in-Text.is)
 

@@ -21,6 +21,7 @@ returns-then-len-eq1 c =
       bytes = grown-bytes s g.copied.items piece within ∙ ap (text_of_pieces s) (sym one);
       rows = refl;
       pieces = refl;
+      source = refl;
       stack = refl;
     }
 
@@ -49,5 +50,6 @@ returns c =
       bytes = copied-bytes s g.copied.items text c.copy.new.copied.items _ _ all (omega (arith, a, b)) (omega (arith, a, b, d, e, many));
       rows = flats-again s g.copied.items text c.copy.new.copied.items g.rows.items all c.requires.sound.rows;
       pieces = refl;
+      source = refl;
       stack = refl;
     }

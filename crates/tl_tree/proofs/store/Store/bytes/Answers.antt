@@ -1,9 +1,14 @@
-use Rattle.tl_tree.proofs.Asked.{bytes-page, bytes-side}
+use Rattle.std.proofs.Common.{IsTrue, List, ap, drop, length, subst, sym, take, ◌++◌, ◌∙◌, ℕ}
+use Rattle.tl_tree.specs.Inner.Store.{bytes_of}
+use Rattle.tl_tree.specs.Inner.Within.{span_is_within}
 use Rattle.tl_tree.proofs.store.Store.bytes.Goals as goal
 
-pub returns-then-end-before : goal.returns-then-end-before
-returns-then-end-before c = bytes-page c.args.self.now c.args.span c.if-end-before.true
+pub bytes_at-requires-clause-within : goal.bytes_at-requires-clause-within
+bytes_at-requires-clause-within c =
+    subst (λ (side : List ℕ). IsTrue (span_is_within (length c.args.self.now.page.now) (length side) c.args.span)) (sym c.deref.ensures.value) c.requires
 
-pub returns-else-end-before : goal.returns-else-end-before
-returns-else-end-before c =
-    bytes-side c.args.self.now c.args.span c.deref.result.now c.deref.ensures.value c.requires c.if-end-before.false
+pub returns : goal.returns
+unfolding bytes_of
+returns c =
+    c.bytes_at.ensures
+    ∙ ap (λ (side : List ℕ). take c.args.span.len (drop c.args.span.start (c.args.self.now.page.now ++ side))) c.deref.ensures.value
