@@ -1,16 +1,20 @@
 -- Compounds by the tests of their steps.
 use Rattle.std.proofs.Common.{◌≡◌, ◌<◌, ◌≤◌, ◌+◌, ◌↔◌, ◌∷◌, [], ℕ, zero, suc, List, true, length, sym, ap, arith, inl, inr, subst, refl, Option, None, Some, IfSome, option_and_then, slice_get}
 use Rattle.std.proofs.lemmas.Bool.{false≢true, cases_lt}
+use Rattle.std.specs.Option.{IsSomeAnd}
 use Rattle.std.proofs.lemmas.Option.{slice_get_past}
 use Rattle.tl_tree_select.specs.Page.{Page}
-use Rattle.tl_tree_select.specs.Meaning.{Holds}
+use Rattle.tl_tree_select.specs.Meaning.{Holds, IsNamed}
 use Rattle.tl_css.specs.Program.{after_steps, selector_of, waiting_after, last_waiting}
-use Rattle.tl_css.specs.Selector.{Css, Is, Both}
-use Rattle.tl_css.specs.View.{test}
+use Rattle.tl_css.specs.Selector.{Css, Ident, Is, Both}
+use Rattle.tl_css.specs.View.{ident, test}
 use Rattle.tl_css.specs.declared.selector.Step.{Step}
 use Rattle.tl_css.specs.declared.selector.Step.TheVariants.{Ask, Keep, Turn, Meet, Unite, Shift, Count}
 use Rattle.tl_css.specs.declared.selector.Test.{Test}
-use Rattle.tl_tree_select.specs.Inner.Compound.{HoldsAt, IsCompound, fits, test_in}
+use Rattle.tl_css.specs.declared.selector.Test.TheVariants.{Any, Name, Id, Class, Key, Value, Empty, May}
+use Rattle.tl_names.specs.ElementNames.{name_of as number_of}
+use Rattle.tl_names.specs.declared.element_name.ElementName.{ElementName}
+use Rattle.tl_tree_select.specs.Inner.Compound.{BeginsWith, HoldsAt, IsCompound, fits, name_of, test_in}
 
 -- Steps
 
@@ -115,3 +119,21 @@ compound_of steps place some long h = record {
     | inr ge ↦ subst (λ (o : Option Step). IfSome o (λ step. fits k step ≡ true)) (sym (slice_get_past steps k (omega (arith, ge, long)))) tt
   ];
 }
+
+-- a compound that begins with a name holds at elements of that name alone
+module _ (page : Page) (n : ℕ) (known : ElementName) where
+  first_named : (o : Option Test) → IsSomeAnd (option_and_then name_of o) (λ name. known ≡ number_of name.lower.items) → IfSome o (λ (t : Test). Holds page (Is (test t)) n)
+      → (name : Ident) × (known ≡ number_of name.lower) × IsNamed page name n
+  first_named None b h = absurd b
+  first_named (Some Any) b h = absurd b
+  first_named (Some (Name name)) b h = (ident name, b, h.1)
+  first_named (Some (Id id)) b h = absurd b
+  first_named (Some (Class class)) b h = absurd b
+  first_named (Some (Key key)) b h = absurd b
+  first_named (Some (Value key op value folds)) b h = absurd b
+  first_named (Some Empty) b h = absurd b
+  first_named (Some (May anchor)) b h = absurd b
+
+  pub named_first : (steps : List Step) → IsCompound steps → BeginsWith known steps → Holds page (selector_of steps) n
+      → (name : Ident) × (known ≡ number_of name.lower) × IsNamed page name n
+  named_first steps c b h = first_named (option_and_then test_in (slice_get steps 0)) b ((all_hold page n steps c).0 h 0)

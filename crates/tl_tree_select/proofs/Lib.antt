@@ -1,5 +1,4 @@
 pub mod Ahead
-pub mod Attributes
 pub mod Behind
 pub mod Compounds
 pub mod Contents
@@ -10,6 +9,7 @@ pub mod Lowercase
 pub mod Marks
 pub mod Nothings
 pub mod Numbers
+pub mod Outwards
 pub mod Previous
 pub mod Pushes
 pub mod Relatives
@@ -17,6 +17,7 @@ pub mod Siblings
 pub mod Sources
 pub mod Stacks
 pub mod Targets
+pub mod Tests
 pub mod Trees
 pub mod Twins
 pub mod Values

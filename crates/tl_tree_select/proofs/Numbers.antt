@@ -1,13 +1,18 @@
 -- Numbers that are found, one after the other.
-use Rattle.std.proofs.Common.{◌≡◌, ◌<◌, ◌+◌, ◌++◌, ◌∷◌, [], ℕ, List, length, arith, inl, inr, subst}
+use Rattle.std.proofs.Common.{◌≡◌, ◌<◌, ◌+◌, ◌++◌, ◌∷◌, ◌∙◌, [], ℕ, List, None, Some, ap, length, arith, inl, inr, slice_get, subst, sym}
 use Rattle.std.specs.List.{Contains}
 use Rattle.std.proofs.lemmas.Bool.{cases_lt}
 use Rattle.std.proofs.lemmas.List.Elements.{Contains-append_left, Contains-get_or, Contains-push, Contains-push_cases}
 use Rattle.std.proofs.lemmas.List.Quantifiers.{all_pairs_push}
 use Rattle.tl_css.specs.Selector.{Css}
-use Rattle.tl_tree_select.specs.Inner.Finding.{AreBelow}
-use Rattle.tl_tree_select.specs.Meaning.{AreFound, IsFound}
+use Rattle.tl_tree_select.specs.Inner.Finding.{AreBelow, IsFoundFrom}
+use Rattle.tl_tree_select.specs.Meaning.{AreFound, AreFoundBelow}
 use Rattle.tl_tree_select.specs.Page.{Page}
+use Rattle.std.proofs.lemmas.Option.{none-some, same_Some}
+use Rattle.std.specs.Option.{option_map}
+use Rattle.tl_tree.specs.Asked.{end_at}
+use Rattle.tl_tree.specs.Rows.{Row}
+use Rattle.tl_tree_select.proofs.Contents.{from_front, row_by}
 use Rattle.tl_tree_select.proofs.Marks.{holds_within}
 
 module _ (P : ℕ → Type 0) where
@@ -44,8 +49,48 @@ module _ (P : ℕ → Type 0) where
     );
   }
 
-pub all_below : (page : Page) (e : Css) (ns : List ℕ) → AreBelow (IsFound page e) (length page.rows) ns → AreFound page e ns
-all_below page e ns a = record {
+-- nothing is found before a search begins
+pub none_from : (page : Page) (e : Css) (start : ℕ) → AreBelow (IsFoundFrom page e start) start []
+none_from page e start = record {
+  rising = λ i j d lt w. absurd (omega (arith, w));
+  each = λ n. (λ h. absurd (omega (arith, h.1)), λ h. absurd (omega (arith, h.0, h.1.1)));
+}
+
+pub all_found : (page : Page) (e : Css) (ns : List ℕ) → AreBelow (IsFoundFrom page e 0) (length page.rows) ns → AreFound page e ns
+all_found page e ns a = record {
   rising = a.rising;
-  each = λ n. (λ h. ((a.each n).0 h).1, λ h. (a.each n).1 (holds_within page e n h.0, h));
+  each = λ n. (
+    λ h. (from_front page e n).0 ((a.each n).0 h).1,
+    λ h. (a.each n).1 (holds_within page e n h.0, (from_front page e n).1 h),
+  );
+}
+
+-- what a search finds up to the end of a row is what it finds below the row
+pub all_below : (page : Page) (e : Css) (outer end : ℕ) (ns : List ℕ) → end_at page.rows outer ≡ Some end → AreBelow (IsFoundFrom page e (outer + 1)) end ns
+    → AreFoundBelow page e outer ns
+all_below page e outer end ns at a =
+    let own = row_by (slice_get page.rows outer) end at in
+    let is = own.2 in
+    record {
+      rising = a.rising;
+      each = λ n. (
+        λ c.
+            let h = (a.each n).0 c in
+            (h.1.0, (own.0, own.1, omega (arith, h.1.1), omega (arith, h.0, is)), λ m here inner range. h.1.2 (m, omega (arith, inner.2), here, range)),
+        λ h.
+            let one : Some own.0 ≡ Some h.1.0 = sym own.1 ∙ h.1.1 in
+            let alike : own.0.end ≡ h.1.0.end = ap (λ (row : Row). row.end) (same_Some own.0 h.1.0 one) in
+            let last : n < end = omega (arith, h.1.3, alike, is) in
+            (a.each n).1 (last, (h.0, omega (arith, h.1.2), λ k. h.2 k.0 k.2 (own.0, own.1, omega (arith, k.1), omega (arith, k.3.2, last, is)) k.3)),
+      );
+    }
+
+-- below what is no row nothing is found
+pub none_below_row : (page : Page) (e : Css) (outer : ℕ) → end_at page.rows outer ≡ None → AreFoundBelow page e outer []
+none_below_row page e outer none = record {
+  rising = λ i j d lt w. absurd (omega (arith, w));
+  each = λ n. (
+    λ h. absurd (omega (arith, h.1)),
+    λ h. absurd (none-some h.1.0.end (sym none ∙ ap (option_map (λ (row : Row). row.end)) h.1.1)),
+  );
 }

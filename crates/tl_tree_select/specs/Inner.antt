@@ -1,5 +1,4 @@
 -- What the proofs and private functions of this crate cite, and no public clause.
-pub mod Attribute
 pub mod Columns
 pub mod Compound
 pub mod Finding

@@ -3,6 +3,8 @@ use Rattle.std.specs.Prelude.{◌≡◌, ◌≢◌, ◌↔◌, ◌⊎◌, ◌<�
 use Rattle.std.specs.List.{All, AllPairs, Contains, slice_split}
 use Rattle.std.specs.Option.{IsSome, IsSomeAnd, is_some, option_and_then, option_map_or}
 use Rattle.std.specs.Str.{byte, str_to_ascii_lowercase}
+use Rattle.tl_css.specs.declared.selector.Anchor.{Anchor}
+use Rattle.tl_css.specs.declared.selector.Anchor.TheVariants.{Root, Scope}
 use Rattle.tl_css.specs.declared.selector.Op.{Op}
 use Rattle.tl_css.specs.declared.selector.Op.TheVariants.{Equals, Word, Dashed, Starts, Ends, Inside}
 use Rattle.tl_css.specs.declared.selector.Link.{Link}
@@ -12,12 +14,13 @@ use Rattle.tl_css.specs.declared.selector.Reach.TheVariants.{Once, Often}
 use Rattle.tl_css.specs.declared.selector.Way.{Way}
 use Rattle.tl_css.specs.declared.selector.Way.TheVariants.{From, To}
 use Rattle.tl_css.specs.declared.selector.Formula.{Formula}
-use Rattle.tl_css.specs.Selector.{Test, Any, Name, Id, Class, Key, Value, Empty, Css, Is, Not, Both, Either, At, Nth}
+use Rattle.tl_css.specs.Selector.{Ident, Test, Any, Name, Id, Class, Key, Value, Empty, May, Css, Is, Not, Both, Either, At, Nth}
 use Rattle.tl_css.specs.Bytes.{is_white}
+use Rattle.tl_dom_spec.specs.Tables.{no_bytes}
 use Rattle.tl_dom_spec.specs.Tags as dom
 use Rattle.tl_dom_spec.specs.Tags.{is_html}
 use Rattle.tl_names.specs.Elements.{is_among}
-use Rattle.tl_tree.specs.Asked.{attributes_at, children_at, has_no_space, name_of, node_at, parent_at, value_of}
+use Rattle.tl_tree.specs.Asked.{attributes_at, children_at, name_of, node_at, parent_at, value_of}
 use Rattle.tl_tree.specs.Rows.{IsInRange, Node, a_comment, a_doctype, a_text, an_element, contents}
 use Rattle.tl_tree_select.specs.Page.{Page}
 use Rattle.tl_tree_select.specs.AnyCase.{any_case_keys}
@@ -52,9 +55,8 @@ is_element node = is_some (name_of node)
 abbrev pub is_nothing : Node → Bool
 is_nothing (an_element tag) = false
 is_nothing contents = true
-is_nothing (a_text []) = true
-is_nothing (a_text (b ∷ bytes)) = false
-is_nothing (a_comment bytes) = true
+is_nothing (a_text own) = no_bytes own.said
+is_nothing (a_comment own) = true
 is_nothing (a_doctype own) = true
 
 abbrev pub is_html_element : Node → Bool
@@ -65,6 +67,10 @@ is_html_element _ = false
 abbrev pub expanded_name : Node → Option (dom.Namespace × List ℕ)
 expanded_name (an_element tag) = Some (tag.space, tag.name)
 expanded_name _ = None
+
+-- a name or a key as it is asked for: of an HTML element in lower case, of another as it is written
+abbrev pub spelled : Bool → Ident → List ℕ
+spelled is_html own = if is_html then own.lower else own.written
 
 -- Counting
 
@@ -92,19 +98,11 @@ module _ (page : Page) where
 
   -- Tests
 
-  -- names are compared in any case: those of HTML elements stand in lower case
-  abbrev pub IsNamed : List ℕ → ℕ → Type 0
+  abbrev pub IsNamed : Ident → ℕ → Type 0
   IsNamed name n =
-      IsSomeAnd (option_and_then name_of (node_at page.rows n))
-      (λ own. str_to_ascii_lowercase own ≡ name)
+      option_and_then name_of (node_at page.rows n) ≡ Some (spelled (is_html_at n) name)
 
-  -- an element has an attribute of a key without a namespace, and its value passes; keys are
-  -- compared in any case: those of HTML elements stand in lower case
-  abbrev pub HasKey : (List ℕ → Type 0) → List ℕ → ℕ → Type 0
-  HasKey P key n = (own : dom.Attribute) × Contains (attributes_at page.rows n) own
-      × (has_no_space own.space ≡ true) × (str_to_ascii_lowercase own.key ≡ key) × P own.value
-
-  -- the same of the attribute of a key in this case
+  -- an element has an attribute of a key without a namespace, and its value passes
   abbrev pub HasValue : (List ℕ → Type 0) → List ℕ → ℕ → Type 0
   HasValue P key n = IsSomeAnd (value_of key (attributes_at page.rows n)) P
 
@@ -112,16 +110,31 @@ module _ (page : Page) where
   abbrev pub folds_at : List ℕ → ℕ → Bool
   folds_at key n = is_html_at n && is_among any_case_keys key
 
+  -- the root of a document: in a fragment no `html` stands in no row
+  abbrev pub IsRoot : ℕ → Type 0
+  IsRoot n = (parent_at page.rows n ≡ None) × (is_html_at n ≡ true)
+      × (option_and_then name_of (node_at page.rows n) ≡ Some (codes "html"))
+
+  -- what a page is searched from
+  abbrev pub IsScope : Option ℕ → ℕ → Type 0
+  IsScope None n = IsRoot n
+  IsScope (Some m) n = m ≡ n
+
+  abbrev pub IsAnchor : Anchor → ℕ → Type 0
+  IsAnchor Root n = IsRoot n
+  IsAnchor Scope n = IsScope page.scope n
+
   -- a test passes at an element
   abbrev pub IsMet : Test → ℕ → Type 0
   IsMet Any n = ⊤
   IsMet (Name name) n = IsNamed name n
   IsMet (Id id) n = HasValue (PassesBy page.is_quirks Equals id) (codes "id") n
   IsMet (Class class) n = HasValue (PassesBy page.is_quirks Word class) (codes "class") n
-  IsMet (Key key) n = HasKey (λ own. ⊤) key n
+  IsMet (Key key) n = HasValue (λ own. ⊤) (spelled (is_html_at n) key) n
   IsMet (Value key op value folds) n =
-      HasKey (PassesBy (folds || folds_at key n) op value) key n
+      HasValue (PassesBy (folds || folds_at key.lower n) op value) (spelled (is_html_at n) key) n
   IsMet Empty n = All IsNothing (children_at page.rows n)
+  IsMet (May anchor) n = IsAnchor anchor n
 
   -- Links
 
@@ -195,3 +208,21 @@ module _ (page : Page) where
   pub record IsFirst (e : Css) (n : ℕ) : Type 0 where
     pub found : IsFound e n
     pub first : (m : ℕ) → IsFound e m → n ≤ m
+
+  -- a selector holds at an element below a row, outside of contents below that
+  abbrev pub IsFoundBelow : Css → ℕ → ℕ → Type 0
+  IsFoundBelow e outer n = Holds e n × IsInRange page.rows outer n
+      × ((m : ℕ) → node_at page.rows m ≡ Some contents → IsInRange page.rows outer m
+      → IsInRange page.rows m n → ⊥)
+
+  -- the numbers of the elements below a row where a selector holds: each once, rising
+  pub record AreFoundBelow (e : Css) (outer : ℕ) (ns : List ℕ) : Type 0 where
+    pub rising : AllPairs (λ m n. m < n) ns
+    pub each : (n : ℕ) → Contains ns n ↔ IsFoundBelow e outer n
+
+  -- of a row and the elements that it stands in the innermost one where a selector holds: each
+  -- other one stands around it
+  pub record IsClosest (e : Css) (n m : ℕ) : Type 0 where
+    pub around : IsUpTo From Parent m n
+    pub holds : Holds e m
+    pub innermost : (k : ℕ) → IsUpTo From Parent k n → Holds e k → IsUpTo From Parent k m

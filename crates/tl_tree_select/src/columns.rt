@@ -6,24 +6,28 @@ ghost use Rattle.tl_tree_select.specs.Meaning.{Holds, IsCount, IsTerm};
 ghost use Rattle.tl_tree_select.specs.Inner.Columns.{AreMarks, IsCounted, IsPassed, is_often};
 ghost use Rattle.tl_tree_select.specs.Inner.Kin.{AreLinksOf, is_element_at};
 ghost use Rattle.tl_tree_select.specs.Inner.Links.{AreLower, count_at, is_at};
-ghost use Rattle.tl_tree_select.specs.Page.{page_of};
+ghost use Rattle.tl_tree_select.specs.Page.{seen};
 
 use crate::element::is_element_at;
 use crate::links::{counts_ahead, counts_behind, is_marked, sources, targets};
+use crate::page::Searched;
 use crate::term::is_term;
 use crate::test::is_met_at;
 use std::alloc::{AllocError, Global};
 use tl_css::selector::{Formula, Link, Reach, Test, Way};
-use tl_tree::Tree;
 
 /// The marks of a test.
-pub fn test_marks(alloc: Global, tree: &Tree<'_>, test: &Test) -> Result<Vec<bool>, AllocError>
-    ensures { IfOk result (λ marks. AreMarks (page_of tree.now)
+pub fn test_marks(
+    alloc: Global,
+    page: &Searched<'_, '_>,
+    test: &Test,
+) -> Result<Vec<bool>, AllocError>
+    ensures { IfOk result (λ marks. AreMarks (seen page.now)
         (Is (test_of test.now)) marks.items) }
 {
-    let mut marks = Vec::with_capacity(alloc, tree.len())?;
-    for number in 0..tree.len() {
-        let mark = is_met_at(alloc, tree, number, test)?;
+    let mut marks = Vec::with_capacity(alloc, page.tree.len())?;
+    for number in 0..page.tree.len() {
+        let mark = is_met_at(alloc, page, number, test)?;
         marks.push(mark)?;
     }
     Ok(marks)
@@ -32,34 +36,34 @@ pub fn test_marks(alloc: Global, tree: &Tree<'_>, test: &Test) -> Result<Vec<boo
 // Whether a number is marked, and a test passes there.
 fn is_met_among(
     alloc: Global,
-    tree: &Tree<'_>,
+    page: &Searched<'_, '_>,
     among: &[bool],
     number: usize,
     test: &Test,
 ) -> Result<bool, AllocError>
     ensures { IfOk result (λ met. (met ≡ true) ↔ ((is_at among.now number ≡ true)
-        × Holds (page_of tree.now) (Is (test_of test.now)) number)) }
+        × Holds (seen page.now) (Is (test_of test.now)) number)) }
 {
     if !is_marked(among, number) {
         return Ok(false);
     }
-    is_met_at(alloc, tree, number, test)
+    is_met_at(alloc, page, number, test)
 }
 
 /// The marks of a test among those that are marked.
 pub fn test_marks_among(
     alloc: Global,
-    tree: &Tree<'_>,
+    page: &Searched<'_, '_>,
     among: &[bool],
     test: &Test,
 ) -> Result<Vec<bool>, AllocError>
-    ensures { (e : Css) → AreMarks (page_of tree.now) e among.now
-        → IfOk result (λ marks. AreMarks (page_of tree.now)
+    ensures { (e : Css) → AreMarks (seen page.now) e among.now
+        → IfOk result (λ marks. AreMarks (seen page.now)
         (Both e (Is (test_of test.now))) marks.items) }
 {
-    let mut marks = Vec::with_capacity(alloc, tree.len())?;
-    for number in 0..tree.len() {
-        let mark = is_met_among(alloc, tree, among, number, test)?;
+    let mut marks = Vec::with_capacity(alloc, page.tree.len())?;
+    for number in 0..page.tree.len() {
+        let mark = is_met_among(alloc, page, among, number, test)?;
         marks.push(mark)?;
     }
     Ok(marks)
@@ -68,15 +72,15 @@ pub fn test_marks_among(
 /// The marks of the elements that have none.
 pub fn unmarked_elements(
     alloc: Global,
-    tree: &Tree<'_>,
+    page: &Searched<'_, '_>,
     marks: &[bool],
 ) -> Result<Vec<bool>, AllocError>
-    ensures { (e : Css) → AreMarks (page_of tree.now) e marks.now
-        → IfOk result (λ found. AreMarks (page_of tree.now) (Not e) found.items) }
+    ensures { (e : Css) → AreMarks (seen page.now) e marks.now
+        → IfOk result (λ found. AreMarks (seen page.now) (Not e) found.items) }
 {
-    let mut found = Vec::with_capacity(alloc, tree.len())?;
-    for number in 0..tree.len() {
-        found.push(is_element_at(tree, number) && !is_marked(marks, number))?;
+    let mut found = Vec::with_capacity(alloc, page.tree.len())?;
+    for number in 0..page.tree.len() {
+        found.push(is_element_at(page, number) && !is_marked(marks, number))?;
     }
     Ok(found)
 }
@@ -104,13 +108,13 @@ pub fn unite(marks: &mut Vec<bool>, others: &[bool])
 }
 
 // Takes the mark from each row that is no element.
-fn keep_elements(marks: &mut Vec<bool>, tree: &Tree<'_>)
+fn keep_elements(marks: &mut Vec<bool>, page: &Searched<'_, '_>)
     ensures len { length marks.new.items ≡ length marks.old.items }
     ensures kept { (n : ℕ) → is_at marks.new.items n
-        ≡ (is_at marks.old.items n && is_element_at (page_of tree.now) n) }
+        ≡ (is_at marks.old.items n && is_element_at (seen page.now) n) }
 {
     for (number, mark) in marks.iter_mut().enumerate() {
-        *mark = *mark && is_element_at(tree, number);
+        *mark = *mark && is_element_at(page, number);
     }
 }
 
@@ -142,18 +146,18 @@ fn is_often(reach: Reach) -> bool
 /// The marks of the elements that are related to a marked one.
 pub fn relatives(
     alloc: Global,
-    tree: &Tree<'_>,
+    page: &Searched<'_, '_>,
     links: &[u32],
     marks: &[bool],
     relation: (Way, Link, Reach),
 ) -> Result<Vec<bool>, AllocError>
-    requires links { AreLinksOf (page_of tree.now) relation.1 links.now }
-    ensures { (e : Css) → AreMarks (page_of tree.now) e marks.now → IfOk result (λ found.
-        AreMarks (page_of tree.now) (At relation.0 relation.1 relation.2 e) found.items) }
+    requires links { AreLinksOf (seen page.now) relation.1 links.now }
+    ensures { (e : Css) → AreMarks (seen page.now) e marks.now → IfOk result (λ found.
+        AreMarks (seen page.now) (At relation.0 relation.1 relation.2 e) found.items) }
 {
     let (way, _, reach) = relation;
     let mut found = pass_marks(alloc, links, marks, way, is_often(reach))?;
-    keep_elements(&mut found, tree);
+    keep_elements(&mut found, page);
     Ok(found)
 }
 
@@ -192,19 +196,19 @@ fn is_marked_term(marks: &[bool], counts: &[u32], formula: Formula, number: usiz
 /// The marks of the elements whose counts are of a formula.
 pub fn terms(
     alloc: Global,
-    tree: &Tree<'_>,
+    page: &Searched<'_, '_>,
     links: &[u32],
     marks: &[bool],
     sequence: (Way, Link, Formula),
 ) -> Result<Vec<bool>, AllocError>
-    requires links { AreLinksOf (page_of tree.now) sequence.1 links.now }
-    ensures { (e : Css) → AreMarks (page_of tree.now) e marks.now → IfOk result (λ found.
-        AreMarks (page_of tree.now) (Nth sequence.0 sequence.1 sequence.2 e) found.items) }
+    requires links { AreLinksOf (seen page.now) sequence.1 links.now }
+    ensures { (e : Css) → AreMarks (seen page.now) e marks.now → IfOk result (λ found.
+        AreMarks (seen page.now) (Nth sequence.0 sequence.1 sequence.2 e) found.items) }
 {
     let (way, _, formula) = sequence;
     let counts = counts(alloc, links, marks, way)?;
-    let mut found = Vec::with_capacity(alloc, tree.len())?;
-    for number in 0..tree.len() {
+    let mut found = Vec::with_capacity(alloc, page.tree.len())?;
+    for number in 0..page.tree.len() {
         found.push(is_marked_term(marks, &counts, formula, number))?;
     }
     Ok(found)

@@ -3,14 +3,14 @@
 ghost use Rattle.std.specs.Prelude.{◌≡◌, ◌↔◌, IfOk, true};
 ghost use Rattle.std.specs.Option.{option_copied};
 ghost use Rattle.tl_css.specs.Program.{selector_of};
-ghost use Rattle.tl_tree_select.specs.Inner.Compound.{HoldsAt, IsCompound, fits, is_asked, is_kept, test_in};
+ghost use Rattle.tl_tree_select.specs.Inner.Compound.{HoldsAt, IsCompound, fits, is_asked, is_kept, name_in, name_of, test_in};
 ghost use Rattle.tl_tree_select.specs.Meaning.{Holds};
-ghost use Rattle.tl_tree_select.specs.Page.{page_of};
+ghost use Rattle.tl_tree_select.specs.Page.{seen};
 
+use crate::page::Searched;
 use crate::test::is_met_at;
 use std::alloc::{AllocError, Global};
-use tl_css::selector::{Step, Test};
-use tl_tree::Tree;
+use tl_css::selector::{Ident, Step, Test};
 
 fn is_asked(step: &Step) -> bool
     ensures { result ≡ is_asked step.now }
@@ -60,13 +60,13 @@ fn test_in(step: &Step) -> Option<&Test>
 // Whether the test of a step, if it is one, passes at the element of a number.
 fn step_holds(
     alloc: Global,
-    tree: &Tree<'_>,
+    page: &Searched<'_, '_>,
     number: usize,
     steps: &[Step],
     place: usize,
 ) -> Result<bool, AllocError>
     ensures { IfOk result (λ holds. (holds ≡ true)
-        ↔ HoldsAt (page_of tree.now) steps.now place number) }
+        ↔ HoldsAt (seen page.now) steps.now place number) }
 {
     let Some(step) = steps.get(place) else {
         return Ok(true);
@@ -74,22 +74,40 @@ fn step_holds(
     let Some(test) = test_in(step) else {
         return Ok(true);
     };
-    is_met_at(alloc, tree, number, test)
+    is_met_at(alloc, page, number, test)
+}
+
+// The name that a test asks for, where it does.
+fn name_of(test: &Test) -> Option<&Ident>
+    ensures { option_copied result ≡ name_of test.now }
+{
+    match test {
+        Test::Name(name) => Some(name),
+        _ => None,
+    }
+}
+
+/// The name that the test of the first step asks for, where it does.
+pub fn name_in(steps: &[Step]) -> Option<&Ident>
+    ensures { option_copied result ≡ name_in steps.now }
+{
+    let test = test_in(steps.first()?)?;
+    name_of(test)
 }
 
 /// Whether a compound holds at the row of a number.
 pub fn compound_holds(
     alloc: Global,
-    tree: &Tree<'_>,
+    page: &Searched<'_, '_>,
     number: usize,
     steps: &[Step],
 ) -> Result<bool, AllocError>
     requires { IsCompound steps.now }
     ensures { IfOk result (λ holds. (holds ≡ true)
-        ↔ Holds (page_of tree.now) (selector_of steps.now) number) }
+        ↔ Holds (seen page.now) (selector_of steps.now) number) }
 {
     for place in 0..steps.len() {
-        let holds = step_holds(alloc, tree, number, steps, place)?;
+        let holds = step_holds(alloc, page, number, steps, place)?;
         if !holds {
             return Ok(false);
         }

@@ -3,59 +3,59 @@ ghost use Rattle.std.specs.Prelude.{◌≡◌, ◌<◌, ◌^◌, ℕ, IfOk, IfSo
 ghost use Rattle.tl_css.specs.declared.selector.Link.TheVariants.{Parent, Sibling, Twin};
 ghost use Rattle.tl_tree_select.specs.Inner.Kin.{AreKin, AreLinksOf, AreSiblingGroups, follows, is_same, links_of, needs, parent_link, sibling_group};
 ghost use Rattle.tl_tree_select.specs.Inner.Links.{link_at};
-ghost use Rattle.tl_tree_select.specs.Page.{Page, page_of};
+ghost use Rattle.tl_tree_select.specs.Page.{Page, seen};
 
 use crate::element::is_element_at;
 use crate::group::previous;
 use crate::links::NO_LINK;
+use crate::page::Searched;
 use crate::twin::twins;
 use std::alloc::{AllocError, Global};
 use tl_css::selector::{Link, Step};
-use tl_tree::Tree;
 
 // Where the link of a row to its parent leads.
 #[tactic(auto, using(crate::proofs::Trees::parent_fits))]
-fn parent_link(tree: &Tree<'_>, number: usize) -> u32
-    ensures { result ≡ parent_link (page_of tree.now) number }
+fn parent_link(page: &Searched<'_, '_>, number: usize) -> u32
+    ensures { result ≡ parent_link (seen page.now) number }
 {
-    match tree.parent(number) {
-        Some(parent) if is_element_at(tree, parent) => parent as u32,
+    match page.tree.parent(number) {
+        Some(parent) if is_element_at(page, parent) => parent as u32,
         _ => NO_LINK,
     }
 }
 
 /// A link from each row to its parent.
-pub fn parents(alloc: Global, tree: &Tree<'_>) -> Result<Vec<u32>, AllocError>
-    ensures { IfOk result (λ links. AreLinksOf (page_of tree.now) Parent links.items) }
+pub fn parents(alloc: Global, page: &Searched<'_, '_>) -> Result<Vec<u32>, AllocError>
+    ensures { IfOk result (λ links. AreLinksOf (seen page.now) Parent links.items) }
 {
-    let mut links = Vec::with_capacity(alloc, tree.len())?;
-    for number in 0..tree.len() {
-        links.push(parent_link(tree, number))?;
+    let mut links = Vec::with_capacity(alloc, page.tree.len())?;
+    for number in 0..page.tree.len() {
+        links.push(parent_link(page, number))?;
     }
     Ok(links)
 }
 
 // The number that tells siblings.
 #[tactic(auto, using(crate::proofs::Trees::parent_fits))]
-fn sibling_group(tree: &Tree<'_>, number: usize) -> u32
-    ensures { result ≡ sibling_group (page_of tree.now) number }
+fn sibling_group(page: &Searched<'_, '_>, number: usize) -> u32
+    ensures { result ≡ sibling_group (seen page.now) number }
 {
-    if !is_element_at(tree, number) {
+    if !is_element_at(page, number) {
         return NO_LINK;
     }
-    match tree.parent(number) {
+    match page.tree.parent(number) {
         Some(parent) => parent as u32 + 1,
         None => 0,
     }
 }
 
 /// A group for each element, one for all that are siblings.
-fn sibling_groups(alloc: Global, tree: &Tree<'_>) -> Result<Vec<u32>, AllocError>
-    ensures { IfOk result (λ groups. AreSiblingGroups (page_of tree.now) groups.items) }
+fn sibling_groups(alloc: Global, page: &Searched<'_, '_>) -> Result<Vec<u32>, AllocError>
+    ensures { IfOk result (λ groups. AreSiblingGroups (seen page.now) groups.items) }
 {
-    let mut groups = Vec::with_capacity(alloc, tree.len())?;
-    for number in 0..tree.len() {
-        groups.push(sibling_group(tree, number))?;
+    let mut groups = Vec::with_capacity(alloc, page.tree.len())?;
+    for number in 0..page.tree.len() {
+        groups.push(sibling_group(page, number))?;
     }
     Ok(groups)
 }
@@ -111,30 +111,34 @@ fn sibling_links(alloc: Global, groups: &[u32], needed: bool) -> Result<Vec<u32>
 // The links of twins by the groups of siblings, if they are needed.
 fn twin_links(
     alloc: Global,
-    tree: &Tree<'_>,
+    page: &Searched<'_, '_>,
     groups: &[u32],
     needed: bool,
 ) -> Result<Vec<u32>, AllocError>
-    requires groups { AreSiblingGroups (page_of tree.now) groups.now }
+    requires groups { AreSiblingGroups (seen page.now) groups.now }
     ensures { needed ≡ true → IfOk result
-        (λ links. AreLinksOf (page_of tree.now) Twin links.items) }
+        (λ links. AreLinksOf (seen page.now) Twin links.items) }
 {
     if !needed {
         return Ok(Vec::new(alloc));
     }
-    let links = twins(alloc, tree, groups)?;
+    let links = twins(alloc, page, groups)?;
     Ok(links)
 }
 
 // The links of parents, if they are needed.
-fn parent_links(alloc: Global, tree: &Tree<'_>, needed: bool) -> Result<Vec<u32>, AllocError>
+fn parent_links(
+    alloc: Global,
+    page: &Searched<'_, '_>,
+    needed: bool,
+) -> Result<Vec<u32>, AllocError>
     ensures { needed ≡ true → IfOk result
-        (λ links. AreLinksOf (page_of tree.now) Parent links.items) }
+        (λ links. AreLinksOf (seen page.now) Parent links.items) }
 {
     if !needed {
         return Ok(Vec::new(alloc));
     }
-    let links = parents(alloc, tree)?;
+    let links = parents(alloc, page)?;
     Ok(links)
 }
 
@@ -158,11 +162,11 @@ impl Kin {
     }
 
     // Where no sibling is asked for.
-    fn ancestry(alloc: Global, tree: &Tree<'_>, needed: bool) -> Result<Kin, AllocError>
+    fn ancestry(alloc: Global, page: &Searched<'_, '_>, needed: bool) -> Result<Kin, AllocError>
         ensures { needed ≡ true → IfOk result
-            (λ kin. AreLinksOf (page_of tree.now) Parent kin.parents.items) }
+            (λ kin. AreLinksOf (seen page.now) Parent kin.parents.items) }
     {
-        let parents = parent_links(alloc, tree, needed)?;
+        let parents = parent_links(alloc, page, needed)?;
         Ok(Kin {
             parents,
             siblings: Vec::new(alloc),
@@ -171,20 +175,20 @@ impl Kin {
     }
 
     /// The links between the rows of a page that some steps follow.
-    pub fn new(alloc: Global, tree: &Tree<'_>, steps: &[Step]) -> Result<Kin, AllocError>
-        ensures { IfOk result (λ kin. AreKin (page_of tree.now) kin steps.now) }
+    pub fn new(alloc: Global, page: &Searched<'_, '_>, steps: &[Step]) -> Result<Kin, AllocError>
+        ensures { IfOk result (λ kin. AreKin (seen page.now) kin steps.now) }
     {
         let needs_siblings = needs(steps, Link::Sibling);
         let needs_twins = needs(steps, Link::Twin);
         let needs_parents = needs(steps, Link::Parent);
         if !needs_siblings && !needs_twins {
-            let kin = Kin::ancestry(alloc, tree, needs_parents)?;
+            let kin = Kin::ancestry(alloc, page, needs_parents)?;
             return Ok(kin);
         }
-        let parents = parent_links(alloc, tree, needs_parents)?;
-        let groups = sibling_groups(alloc, tree)?;
+        let parents = parent_links(alloc, page, needs_parents)?;
+        let groups = sibling_groups(alloc, page)?;
         let siblings = sibling_links(alloc, &groups, needs_siblings)?;
-        let twins = twin_links(alloc, tree, &groups, needs_twins)?;
+        let twins = twin_links(alloc, page, &groups, needs_twins)?;
         Ok(Kin {
             parents,
             siblings,

@@ -2,7 +2,6 @@
 #![tactic(auto)]
 
 mod any_case;
-mod attribute;
 mod columns;
 mod compound;
 mod element;
@@ -12,6 +11,7 @@ mod kin;
 pub mod laws;
 mod letters;
 mod links;
+mod page;
 mod search;
 mod stack;
 mod term;
@@ -19,4 +19,4 @@ mod test;
 mod twin;
 mod value;
 
-pub use search::{first, matches, select};
+pub use search::{below, closest, first, matches, select};

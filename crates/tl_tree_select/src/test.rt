@@ -1,61 +1,106 @@
 //! Tests of the element of a number.
 ghost use Rattle.std.specs.Prelude.{◌≡◌, ◌↔◌, IfOk, true};
 ghost use Rattle.std.specs.List.{All};
-ghost use Rattle.tl_css.specs.Selector.{Empty, Is};
-ghost use Rattle.tl_css.specs.View.{test as test_of};
+ghost use Rattle.tl_css.specs.Selector.{Is, Value};
+ghost use Rattle.tl_css.specs.View.{ident, test as test_of};
 ghost use Rattle.tl_tree.specs.Asked.{children_at};
-ghost use Rattle.tl_tree_select.specs.Meaning.{Holds, IsMet, IsNothing};
-ghost use Rattle.tl_tree_select.specs.Page.{page_of};
+ghost use Rattle.tl_tree_select.specs.Meaning.{HasValue, Holds, IsMet, IsNothing, PassesBy};
+ghost use Rattle.tl_tree_select.specs.Page.{seen};
 
-use crate::attribute::{has_attribute, has_value};
-use crate::element::{folds_at, is_element_at, is_named, is_nothing_at};
+use crate::element::{
+    folds_at, has_key, is_anchor_at, is_element_at, is_named, is_nothing_at, spelled_at,
+};
+use crate::page::Searched;
+use crate::value::passes_value;
 use std::alloc::{AllocError, Global};
-use tl_css::selector::{Op, Test};
-use tl_tree::Tree;
+use tl_css::selector::{Ident, Op, Test};
 
 // Whether all children of a row count for nothing.
-fn is_empty(tree: &Tree<'_>, number: usize) -> bool
-    ensures { (result ≡ true) ↔ All (IsNothing (page_of tree.now))
-        (children_at (page_of tree.now).rows number) }
+fn is_empty(page: &Searched<'_, '_>, number: usize) -> bool
+    ensures { (result ≡ true) ↔ All (IsNothing (seen page.now))
+        (children_at (seen page.now).rows number) }
 {
-    for child in tree.children(number) {
-        if !is_nothing_at(tree, child) {
+    for child in page.tree.children(number) {
+        if !is_nothing_at(page, child) {
             return false;
         }
     }
     true
 }
 
+// Whether the value at a key passes, where it is compared as ids and classes are.
+fn has_value(
+    alloc: Global,
+    page: &Searched<'_, '_>,
+    number: usize,
+    key: &[u8],
+    op: Op,
+    value: &[u8],
+) -> Result<bool, AllocError>
+    ensures { IfOk result (λ has. (has ≡ true) ↔ HasValue (seen page.now)
+        (PassesBy (seen page.now).is_quirks op value.now) key.now number) }
+{
+    match page.tree.value(number, key) {
+        Some(own) => passes_value(alloc, op, value, page.tree.is_quirks(), own),
+        None => Ok(false),
+    }
+}
+
+// Whether the value of an attribute passes.
+fn has_attribute(
+    alloc: Global,
+    page: &Searched<'_, '_>,
+    number: usize,
+    key: &Ident,
+    op: Op,
+    value: &[u8],
+    folds: bool,
+) -> Result<bool, AllocError>
+    ensures { IfOk result (λ has. (has ≡ true)
+        ↔ IsMet (seen page.now) (Value (ident key.now) op value.now folds) number) }
+{
+    let folds = folds || folds_at(page, number, &key.lower);
+    match page.tree.value(number, spelled_at(page, number, key)) {
+        Some(own) => passes_value(alloc, op, value, folds, own),
+        None => Ok(false),
+    }
+}
+
 // Whether a test passes at a row.
-fn is_met(alloc: Global, tree: &Tree<'_>, number: usize, test: &Test) -> Result<bool, AllocError>
-    ensures { IfOk result (λ met. (met ≡ true)
-        ↔ IsMet (page_of tree.now) (test_of test.now) number) }
+fn is_met(
+    alloc: Global,
+    page: &Searched<'_, '_>,
+    number: usize,
+    test: &Test,
+) -> Result<bool, AllocError>
+    ensures { IfOk result (λ met. (met ≡ true) ↔ IsMet (seen page.now) (test_of test.now) number) }
 {
     match test {
         Test::Any => Ok(true),
-        Test::Name(name) => Ok(is_named(tree, number, name)),
-        Test::Id(id) => has_value(alloc, tree, number, b"id", Op::Equals, id),
-        Test::Class(class) => has_value(alloc, tree, number, b"class", Op::Word, class),
-        Test::Key(_) => has_attribute(alloc, tree, number, test, false),
-        Test::Value(key, _, _, _) => {
-            has_attribute(alloc, tree, number, test, folds_at(tree, number, key))
+        Test::Name(name) => Ok(is_named(page, number, name)),
+        Test::Id(id) => has_value(alloc, page, number, b"id", Op::Equals, id),
+        Test::Class(class) => has_value(alloc, page, number, b"class", Op::Word, class),
+        Test::Key(key) => Ok(has_key(page, number, key)),
+        Test::Value(key, op, value, folds) => {
+            has_attribute(alloc, page, number, key, *op, value, *folds)
         }
-        Test::Empty => Ok(is_empty(tree, number)),
+        Test::Empty => Ok(is_empty(page, number)),
+        Test::May(anchor) => Ok(is_anchor_at(page, number, *anchor)),
     }
 }
 
 /// Whether there is an element of this number, and a test passes there.
 pub fn is_met_at(
     alloc: Global,
-    tree: &Tree<'_>,
+    page: &Searched<'_, '_>,
     number: usize,
     test: &Test,
 ) -> Result<bool, AllocError>
     ensures { IfOk result (λ met. (met ≡ true)
-        ↔ Holds (page_of tree.now) (Is (test_of test.now)) number) }
+        ↔ Holds (seen page.now) (Is (test_of test.now)) number) }
 {
-    if !is_element_at(tree, number) {
+    if !is_element_at(page, number) {
         return Ok(false);
     }
-    is_met(alloc, tree, number, test)
+    is_met(alloc, page, number, test)
 }

@@ -4,15 +4,16 @@ ghost use Rattle.std.specs.BTreeMap.{get, is_at};
 ghost use Rattle.std.specs.Option.{option_map_or};
 ghost use Rattle.tl_css.specs.declared.selector.Link.TheVariants.{Twin};
 ghost use Rattle.tl_tree_select.specs.Inner.Kin.{AreLinksOf, AreSiblingGroups, space_number, twin_group};
-ghost use Rattle.tl_tree_select.specs.Page.{page_of};
+ghost use Rattle.tl_tree_select.specs.Page.{seen};
 ghost use Rattle.tl_tree_select.specs.Inner.Links.{no_link};
 ghost use Rattle.tl_tree_select.specs.Inner.Twin.{parts, space_of, twin_cmp};
 ghost use Rattle.tl_tree_select.specs.declared.twin.TwinGroup.{TwinGroup};
 
 use crate::links::{NO_LINK, link};
+use crate::page::Searched;
 use std::alloc::{AllocError, Global};
 use std::collections::BTreeMap;
-use tl_tree::{Namespace, Tree};
+use tl_tree::Namespace;
 
 // What twins have in common: the group of siblings, the namespace and the name.
 #[derive(PartialEq, Eq, PartialOrd, Ord, Drop)]
@@ -36,20 +37,20 @@ fn space_number(space: Namespace) -> usize
 // The group of an element, if there is an element of this number.
 fn twin_group(
     alloc: Global,
-    tree: &Tree<'_>,
+    page: &Searched<'_, '_>,
     siblings: &[u32],
     number: usize,
 ) -> Result<Option<TwinGroup>, AllocError>
     ensures { IfOk result (λ group. option_map parts group
-        ≡ twin_group (page_of tree.now) siblings.now number) }
+        ≡ twin_group (seen page.now) siblings.now number) }
 {
     let Some(siblings) = link(siblings, number) else {
         return Ok(None);
     };
-    let Some(space) = tree.namespace(number) else {
+    let Some(space) = page.tree.namespace(number) else {
         return Ok(None);
     };
-    let Some(name) = tree.name(number) else {
+    let Some(name) = page.tree.name(number) else {
         return Ok(None);
     };
     let name = Vec::from_slice(alloc, name)?;
@@ -80,14 +81,18 @@ fn replace_latest(
 }
 
 /// A link from each element to the sibling before of the same name.
-pub fn twins(alloc: Global, tree: &Tree<'_>, siblings: &[u32]) -> Result<Vec<u32>, AllocError>
-    requires { AreSiblingGroups (page_of tree.now) siblings.now }
-    ensures { IfOk result (λ links. AreLinksOf (page_of tree.now) Twin links.items) }
+pub fn twins(
+    alloc: Global,
+    page: &Searched<'_, '_>,
+    siblings: &[u32],
+) -> Result<Vec<u32>, AllocError>
+    requires { AreSiblingGroups (seen page.now) siblings.now }
+    ensures { IfOk result (λ links. AreLinksOf (seen page.now) Twin links.items) }
 {
-    let mut links = Vec::with_capacity(alloc, tree.len())?;
+    let mut links = Vec::with_capacity(alloc, page.tree.len())?;
     let mut latest = BTreeMap::new(alloc);
-    for number in 0..tree.len() {
-        let group = twin_group(alloc, tree, siblings, number)?;
+    for number in 0..page.tree.len() {
+        let group = twin_group(alloc, page, siblings, number)?;
         let before = replace_latest(&mut latest, group, number as u32)?;
         links.push(before)?;
     }

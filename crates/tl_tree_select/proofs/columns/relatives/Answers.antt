@@ -1,5 +1,5 @@
 use Rattle.std.proofs.Common.{◌≡◌, ◌↔◌, ℕ, Bool, true, subst}
-use Rattle.tl_tree_select.specs.Page.{page_of}
+use Rattle.tl_tree_select.specs.Page.{seen}
 use Rattle.tl_tree_select.specs.Inner.Columns.{IsPassed}
 use Rattle.tl_tree_select.specs.Inner.Links.{is_at}
 use Rattle.tl_tree_select.proofs.Trees.{tree_up}
@@ -9,11 +9,11 @@ use Rattle.tl_tree_select.proofs.columns.relatives.Goals as goal
 
 pub pass_marks-requires : goal.pass_marks-requires
 pass_marks-requires c =
-    links_lower (page_of c.args.tree.now) (tree_up c.args.tree.now) c.args.relation.1 c.args.links.now c.requires.links
+    links_lower (seen c.args.page.now) (tree_up c.args.page.now.tree.now) c.args.relation.1 c.args.links.now c.requires.links
 
 pub returns : goal.returns
 returns c e are =
-    let page = page_of c.args.tree.now in
+    let page = seen c.args.page.now in
     let links = c.args.links.now in
     let marks = c.args.marks.now in
     let passed = c.in_ok-found.found.items in

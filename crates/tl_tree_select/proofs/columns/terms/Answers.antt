@@ -1,6 +1,6 @@
 use Rattle.std.proofs.Common.{◌≡◌, ◌↔◌, ◌<◌, ◌+◌, ◌∙◌, ℕ, List, Bool, true, length, arith, ap, subst, sym}
 use Rattle.std.proofs.lemmas.List.{length_push}
-use Rattle.tl_tree_select.specs.Page.{page_of}
+use Rattle.tl_tree_select.specs.Page.{seen}
 use Rattle.tl_tree_select.specs.Meaning.{IsTerm}
 use Rattle.tl_tree_select.specs.Inner.Links.{count_at, is_at}
 use Rattle.tl_tree_select.proofs.Trees.{tree_small, tree_up}
@@ -11,11 +11,11 @@ use Rattle.tl_tree_select.proofs.columns.terms.Goals as goal
 
 pub counts-requires : goal.counts-requires
 counts-requires c =
-    let page = page_of c.args.tree.now in
+    let page = seen c.args.page.now in
     let len = c.requires.links.len in
-    let small = (tree_small c.args.tree.now) in
+    let small = (tree_small c.args.page.now.tree.now) in
     record {
-      lower = links_lower page (tree_up c.args.tree.now) c.args.sequence.1 c.args.links.now c.requires.links;
+      lower = links_lower page (tree_up c.args.page.now.tree.now) c.args.sequence.1 c.args.links.now c.requires.links;
       numbered = omega (arith, len, small);
     }
 
@@ -35,10 +35,10 @@ loop-number-preserved c =
 
 pub returns : goal.returns
 returns c e are =
-    let page = page_of c.args.tree.now in
+    let page = seen c.args.page.now in
     let links = c.requires.links in
     let linked = links.len in
-    let all : c.loop-number.number ≡ length (page_of c.args.tree.now).rows = omega arith in
+    let all : c.loop-number.number ≡ length (seen c.args.page.now).rows = omega arith in
     let len = c.loop-number.invariant.len in
     marks_counted page c.args.sequence.1 c.args.links.now links e c.args.marks.now are c.args.sequence.0 c.args.sequence.2 c.in_ok-counts.counts.items
     c.loop-number.found.items (omega (arith, all, len))

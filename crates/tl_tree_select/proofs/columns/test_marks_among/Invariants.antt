@@ -1,5 +1,5 @@
 use Rattle.std.proofs.Common.{◌≡◌, ◌↔◌, ◌<◌, ℕ, length, true}
-use Rattle.tl_tree_select.specs.Page.{page_of}
+use Rattle.tl_tree_select.specs.Page.{seen}
 use Rattle.tl_tree_select.specs.Meaning.{Holds}
 use Rattle.tl_css.specs.Selector.{Is}
 use Rattle.tl_css.specs.View.{test}
@@ -9,5 +9,5 @@ use Rattle.tl_tree_select.proofs.columns.test_marks_among.Given as goal
 abbrev pub invariant-loop-number : goal.invariant-loop-number
 invariant-loop-number l = record {
   len : length l.marks.items ≡ l.number;
-  each : (n : ℕ) → n < l.number → (is_at l.marks.items n ≡ true) ↔ ((is_at l.among n ≡ true) × Holds (page_of l.tree) (Is (test l.test)) n);
+  each : (n : ℕ) → n < l.number → (is_at l.marks.items n ≡ true) ↔ ((is_at l.among n ≡ true) × Holds (seen l.page) (Is (test l.test)) n);
 }

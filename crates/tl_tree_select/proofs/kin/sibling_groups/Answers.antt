@@ -1,13 +1,13 @@
 use Rattle.std.proofs.Common.{◌≡◌, length, arith}
-use Rattle.tl_tree_select.specs.Page.{page_of}
+use Rattle.tl_tree_select.specs.Page.{seen}
 use Rattle.tl_tree_select.proofs.Siblings.{are_groups}
 use Rattle.tl_tree_select.proofs.Trees.{tree_small, tree_up}
 use Rattle.tl_tree_select.proofs.kin.sibling_groups.Goals as goal
 
 pub returns : goal.returns
 returns c =
-    let page = page_of c.args.tree.now in
+    let page = seen c.args.page.now in
     let all : c.loop-number.number ≡ length page.rows = omega arith in
     let len = c.loop-number.invariant.len in
-    are_groups page (tree_up c.args.tree.now) (tree_small c.args.tree.now) c.loop-number.groups.items (omega (arith, len, all))
+    are_groups page (tree_up c.args.page.now.tree.now) (tree_small c.args.page.now.tree.now) c.loop-number.groups.items (omega (arith, len, all))
     (λ m w. c.loop-number.invariant.each m (omega (arith, w, all)))

@@ -2,14 +2,14 @@ use Rattle.std.proofs.Common.{◌∷◌, List, Bool, ap, subst, sym}
 use Rattle.tl_css.specs.Selector.{Both, Css, Is}
 use Rattle.tl_css.specs.Program.{meet}
 use Rattle.tl_css.specs.View.{test}
-use Rattle.tl_tree_select.specs.Page.{page_of}
+use Rattle.tl_tree_select.specs.Page.{seen}
 use Rattle.tl_tree_select.specs.Inner.Columns.{AreMarks}
 use Rattle.tl_tree_select.proofs.Stacks.{last_is, put_back}
 use Rattle.tl_tree_select.proofs.stack.keep.Goals as goal
 
 pub returns : goal.returns
 returns c es are =
-    let page = page_of c.args.tree.now in
+    let page = seen c.args.page.now in
     let t = Is (test c.args.test.now) in
     let l = last_is page es c.args.columns.items c.pop.new.self.items c.in-Some.marks c.in-Some.ensures.items are in
     let m = subst (λ (marks : List Bool). AreMarks page l.first marks) (sym c.deref.ensures.value) l.marked in

@@ -1,6 +1,6 @@
-use Rattle.tl_tree_select.specs.Page.{page_of}
+use Rattle.tl_tree_select.specs.Page.{seen}
 use Rattle.tl_tree_select.proofs.Twins.{Twinned}
 use Rattle.tl_tree_select.proofs.twin.twins.Given as goal
 
 abbrev pub invariant-loop-number : goal.invariant-loop-number
-invariant-loop-number l = Twinned (page_of l.tree) l.siblings l.number l.links.items l.latest
+invariant-loop-number l = Twinned (seen l.page) l.siblings l.number l.links.items l.latest
