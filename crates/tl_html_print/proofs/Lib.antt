@@ -6,3 +6,12 @@ pub mod Located
 pub mod Reread
 pub mod RereadTexts
 pub mod RereadComments
+pub mod NoNuls
+pub mod PageComments
+pub mod PageTokens
+pub mod PageEmissions
+pub mod PageTags
+pub mod PageTrees
+pub mod PageReads
+pub mod PagePlaces
+pub mod BuiltAgain

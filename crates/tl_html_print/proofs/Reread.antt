@@ -1,5 +1,5 @@
 -- How the tokenizer of the standard reads what is printed.
-use Rattle.std.proofs.Common.{Bool, List, None, Option, Some, [], ap, ap₂, append-nil, append_assoc, arith, codes, cond, false, if◌then◌else◌, inl, inr, map, nat_lt, not, refl, subst, sym, true, true≢false, ℕ, ◌&&◌, ◌+◌, ◌++◌, ◌==◌, ◌∙◌, ◌≡◌, ◌||◌, ◌∷◌}
+use Rattle.std.proofs.Common.{Bool, List, None, Option, Some, [], ap, ap₂, append-nil, append_assoc, arith, codes, cond, false, if◌then◌else◌, inl, inr, map, nat_lt, not, refl, subst, sym, true, true≢false, ℕ, ◌&&◌, ◌+◌, ◌++◌, ◌==◌, ◌∙◌, ◌≡◌, ◌||◌, ◌∷◌, ◌⊎◌}
 use Rattle.std.proofs.lemmas.Bool.{and_parts, cases_Bool, eqb-true, ne_eqb, not-true}
 use Rattle.std.specs.Char.{is_ascii_alphabetic, to_ascii_lowercase}
 use Rattle.std.specs.List.{list_all, list_any}
@@ -9,7 +9,7 @@ use Rattle.tl_dom_spec.specs.HtmlForest.{HtmlForest, comment, doctype, element, 
 use Rattle.tl_dom_spec.specs.Lawful.{is_void}
 use Rattle.tl_dom_spec.specs.Tags.{Attribute, Tag}
 use Rattle.tl_html_print.proofs.Printing.{if-false, if-true}
-use Rattle.tl_html_print.specs.ReadAgain.{AreReadable, CanBeReadAgain, IsReadAs, attribute_read, end_tokens, is_in_doctype, is_in_key, is_in_name, is_kept, is_kept_in_value, is_key, is_name, lowered, tokens_of_trees, unless_empty}
+use Rattle.tl_html_print.specs.ReadAgain.{AreReadable, CanBeReadAgain, HoldsItself, HoldsMarkup, IsReadAs, attribute_read, begins_key, end_tokens, is_in_doctype, is_in_key, is_in_name, is_kept, is_kept_in_value, is_key, is_name, lowered, tokens_of_trees, unless_empty}
 use Rattle.tl_html_print.specs.Serialized.{end_tag, escape, escaped, is_literal, is_literal_in, parent_below, serialized, serialized_attribute, serialized_comment, serialized_doctype, serialized_name, serialized_text, start_tag, unless_void}
 use Rattle.tl_html_spec.proofs.Fold.{after_append, emitted_append, tokens_append}
 use Rattle.tl_html_spec.specs.HtmlTokenizer.{Character, CommentToken, DoctypeToken, EndTag, HtmlAttribute, HtmlToken, OpenTag, StartTag, State, Step, after_attribute_name, after_attribute_value, after_start, again_in, attribute_name, before_attribute_name, before_attribute_value, bogus_comment, data_state, doctype as doctype_state, double_quoted, emitting_again, end_tag_open, ends_name, is_white_space, markup_declaration_open, new_tag, replacement, self_closing_start_tag, settled, step, tag_name, tag_open, to, whole_step, with_attribute}
@@ -135,7 +135,7 @@ value-read tag key value (b ∷ c ∷ more) h =
 
 -- Names
 
-lower-nul : (b : ℕ) → (b == 0) ≡ false → (to_ascii_lowercase b == 0) ≡ false
+pub lower-nul : (b : ℕ) → (b == 0) ≡ false → (to_ascii_lowercase b == 0) ≡ false
 lower-nul b z = here (nat_lt b 65) (nat_lt b 91)
   where
     here : (x y : Bool) → (cond x b (cond y (b + 32) b) == 0) ≡ false
@@ -289,12 +289,23 @@ begins-key tag b h =
     ∙ ap (λ x. settled 3 (before_step tag b false false false x) b) o.1
     ∙ ap (λ (x : Step). settled 2 x b) (key-step tag [] b h)
 
+either-true : (a b : Bool) → (a || b) ≡ true → (a ≡ true) ⊎ (b ≡ true)
+either-true true b h = inl refl
+either-true false b h = inr h
+
+first-key : (tag : OpenTag) (b : ℕ) → begins_key b ≡ true → Reads (before_attribute_name tag) (b ∷ []) [] (attribute_name tag (to_ascii_lowercase b ∷ []))
+unfolding read
+first-key tag b h = elim (either-true (is_in_key b) (b == 61) h) [
+  | inl y ↦ one (before_attribute_name tag) (attribute_name tag (to_ascii_lowercase b ∷ [])) b [] (key-return b y) (begins-key tag b y)
+  | inr y ↦ rw (eqb-true b 61 y) (record { tokens_are = refl; state_is = refl })
+]
+
 key-read : (tag : OpenTag) (key : List ℕ) → is_key key ≡ true → Reads (before_attribute_name tag) key [] (attribute_name tag (lowered key))
 key-read tag [] h = absurd (true≢false (sym h))
 key-read tag (b ∷ key) h =
-    let p = and_parts (is_in_key b) (list_all is_in_key key) h in
+    let p = and_parts (begins_key b) (list_all is_in_key key) h in
     quietly (before_attribute_name tag) (attribute_name tag (to_ascii_lowercase b ∷ [])) (attribute_name tag (lowered (b ∷ key))) (b ∷ []) key []
-    (one (before_attribute_name tag) (attribute_name tag (to_ascii_lowercase b ∷ [])) b [] (key-return b p.0) (begins-key tag b p.0))
+    (first-key tag b p.0)
     (key-rest tag (to_ascii_lowercase b ∷ []) key p.1)
 
 -- Attributes
@@ -401,20 +412,42 @@ below-escaped : (b : Bool) (tag : Tag) → is_literal false tag ≡ false → is
 below-escaped true tag h = refl
 below-escaped false tag h = h
 
+unless-read : (void : Bool) (bytes : List ℕ) (tokens : List HtmlToken) → Reads data_state bytes tokens data_state → Reads data_state (if void then [] else bytes) (if void then [] else tokens) data_state
+unless-read true bytes tokens h = nothing-read data_state
+unless-read false bytes tokens h = h
+
+abbrev pub InsideReads : Tag → HtmlForest → Type 0
+InsideReads tag below =
+    Reads (after_start (lowered tag.name)) (unless_void tag (serialized false (parent_below tag) below) ++ end_tag tag) (unless_empty tag (tokens_of_trees below) ++ end_tokens tag) data_state
+
+-- what is in an element, up to its end tag
+inside-read : (tag : Tag) (below : HtmlForest) → is_name tag.name ≡ true → (is_literal_in false (parent_below tag) ≡ false → CanBeReadAgain below → Reads data_state (serialized false (parent_below tag) below) (tokens_of_trees below) data_state) →
+    (HoldsMarkup tag × CanBeReadAgain below) ⊎ HoldsItself tag below → InsideReads tag below
+inside-read tag below n reads (inl markup) =
+    let inner = unless_void tag (serialized false (parent_below tag) below) in
+    let tokens = unless_empty tag (tokens_of_trees below) in
+    subst (λ (s : State). Reads s (inner ++ end_tag tag) (tokens ++ end_tokens tag) data_state) (sym markup.0.0)
+    (then_reads data_state data_state data_state inner (end_tag tag) tokens (end_tokens tag)
+    (unless-read (is_void tag) (serialized false (parent_below tag) below) (tokens_of_trees below) (reads (below-escaped (has_contents tag) tag markup.0.1) markup.1))
+    (unless-read (is_void tag) (codes "</" ++ (tag.name ++ codes ">")) (EndTag (lowered tag.name) ∷ []) (end-read tag.name n)))
+inside-read tag below n reads (inr itself) =
+    as-reads (after_start (lowered tag.name)) (unless_void tag (serialized false (parent_below tag) below) ++ end_tag tag) (unless_empty tag (tokens_of_trees below) ++ end_tokens tag) itself
+
 trees-read : (f : HtmlForest) (parent : Option Tag) → is_literal_in false parent ≡ false → CanBeReadAgain f → Reads data_state (serialized false parent f) (tokens_of_trees f) data_state
 trees-read no_trees parent e h = nothing-read data_state
-trees-read (text bytes more) parent e h =
-    let own = text-read bytes h.0 in
+trees-read (text own more) parent e h =
+    let bytes = own.said in
+    let read = text-read bytes h.0 in
     then_reads data_state data_state data_state (serialized_text false parent bytes) (serialized false parent more) (map Character bytes) (tokens_of_trees more)
-    (subst (λ x. Reads data_state x (map Character bytes) data_state) (sym (if-false (is_literal_in false parent) bytes (escaped false bytes) e)) own)
+    (subst (λ x. Reads data_state x (map Character bytes) data_state) (sym (if-false (is_literal_in false parent) bytes (escaped false bytes) e)) read)
     (trees-read more parent e h.1)
-trees-read (comment bytes more) parent e h =
-    then_reads data_state data_state data_state (serialized_comment bytes) (serialized false parent more) (CommentToken bytes ∷ []) (tokens_of_trees more)
-    (as-reads data_state (serialized_comment bytes) (CommentToken bytes ∷ []) h.0)
+trees-read (comment own more) parent e h =
+    then_reads data_state data_state data_state (serialized_comment own.said) (serialized false parent more) (CommentToken own.said ∷ []) (tokens_of_trees more)
+    (as-reads data_state (serialized_comment own.said) (CommentToken own.said ∷ []) h.0)
     (trees-read more parent e h.1)
 trees-read (doctype own more) parent e h =
-    then_reads data_state data_state data_state (serialized_doctype own.name) (serialized false parent more) (DoctypeToken ∷ []) (tokens_of_trees more)
-    (doctype-read own.name h.0)
+    then_reads data_state data_state data_state (serialized_doctype own.said.name) (serialized false parent more) (DoctypeToken ∷ []) (tokens_of_trees more)
+    (doctype-read own.said.name h.0)
     (trees-read more parent e h.1)
 trees-read (element tag below more) parent e h =
     let name = lowered tag.name in
@@ -422,25 +455,20 @@ trees-read (element tag below more) parent e h =
     let tokens = unless_empty tag (tokens_of_trees below) in
     let start = start-read tag h.0.0 h.0.1 in
     let later = trees-read more parent e h.2 in
-    let own : Reads (after_start name) (inner ++ end_tag tag) (tokens ++ end_tokens tag) data_state = elim h.1 as (λ _. Reads (after_start name) (inner ++ end_tag tag) (tokens ++ end_tokens tag) data_state) [
-      | inl markup ↦
-          subst (λ (s : State). Reads s (inner ++ end_tag tag) (tokens ++ end_tokens tag) data_state) (sym markup.0.0)
-          (then_reads data_state data_state data_state inner (end_tag tag) tokens (end_tokens tag)
-          (unless-read (is_void tag) (serialized false (parent_below tag) below) (tokens_of_trees below) (trees-read below (parent_below tag) (below-escaped (has_contents tag) tag markup.0.1) markup.1))
-          (unless-read (is_void tag) (codes "</" ++ (tag.name ++ codes ">")) (EndTag name ∷ []) (end-read tag.name h.0.0)))
-      | inr itself ↦ as-reads (after_start name) (inner ++ end_tag tag) (tokens ++ end_tokens tag) itself
-    ] in
+    let own = inside-read tag below h.0.0 (λ e c. trees-read below (parent_below tag) e c) h.1 in
     subst (λ x. Reads data_state (start_tag tag ++ x) (tokens_of_trees (element tag below more)) data_state) (append_assoc inner (end_tag tag) (serialized false parent more))
     (subst (λ (x : List HtmlToken). Reads data_state (start_tag tag ++ ((inner ++ end_tag tag) ++ serialized false parent more)) (StartTag name (map attribute_read tag.attributes) false ∷ x) data_state) (append_assoc tokens (end_tokens tag) (tokens_of_trees more))
     (then_reads data_state (after_start name) data_state (start_tag tag) ((inner ++ end_tag tag) ++ serialized false parent more) (StartTag name (map attribute_read tag.attributes) false ∷ []) ((tokens ++ end_tokens tag) ++ tokens_of_trees more) start
     (then_reads (after_start name) data_state data_state (inner ++ end_tag tag) (serialized false parent more) (tokens ++ end_tokens tag) (tokens_of_trees more) own later)))
-  where
-    unless-read : (void : Bool) (bytes : List ℕ) (tokens : List HtmlToken) → Reads data_state bytes tokens data_state → Reads data_state (if void then [] else bytes) (if void then [] else tokens) data_state
-    unless-read true bytes tokens h = nothing-read data_state
-    unless-read false bytes tokens h = h
+
+pub inner_read : (tag : Tag) (below more : HtmlForest) → CanBeReadAgain (element tag below more) → InsideReads tag below
+inner_read tag below more h = inside-read tag below h.0.0 (λ e c. trees-read below (parent_below tag) e c) h.1
+
+pub tree_read : (tree : HtmlForest) (parent : Option Tag) (rest : List ℕ) → is_literal_in false parent ≡ false → CanBeReadAgain tree → tokens_of (at data_state) (serialized false parent tree ++ rest) ≡ tokens_of_trees tree ++ tokens_of (at data_state) rest
+tree_read tree parent rest e h =
+    let all = trees-read tree parent e h in
+    tokens_append (at data_state) (serialized false parent tree) rest
+    ∙ ap₂ (λ (ts : List HtmlToken) (r : Reader). ts ++ tokens_of r rest) all.tokens_are all.state_is
 
 pub print_read : (trees : HtmlForest) (rest : List ℕ) → CanBeReadAgain trees → tokens_of (at data_state) (serialized false None trees ++ rest) ≡ tokens_of_trees trees ++ tokens_of (at data_state) rest
-print_read trees rest h =
-    let all = trees-read trees None refl h in
-    tokens_append (at data_state) (serialized false None trees) rest
-    ∙ ap₂ (λ (ts : List HtmlToken) (r : Reader). ts ++ tokens_of r rest) all.tokens_are all.state_is
+print_read trees rest h = tree_read trees None rest refl h

@@ -11,14 +11,14 @@ use Rattle.tl_html_spec.specs.Reader.{after, emitted, read}
 abbrev close : List ℕ
 close = codes "-->"
 
-abbrev says : List ℕ → List HtmlToken
+abbrev pub says : List ℕ → List HtmlToken
 says bytes = CommentToken bytes ∷ []
 
 -- a byte that is read once more is read as where it is read then
-once : (s t : State) (b : ℕ) → step s b ≡ again_in t → (step t b).again ≡ false → whole_step s b ≡ whole_step t b
+pub once : (s t : State) (b : ℕ) → step s b ≡ again_in t → (step t b).again ≡ false → whole_step s b ≡ whole_step t b
 once s t b e h = ap (λ x. settled 3 x b) e ∙ settled_at_once 2 (step t b) b h ∙ sym (settled_at_once 3 (step t b) b h)
 
-twice : (s t u : State) (b : ℕ) → step s b ≡ again_in t → step t b ≡ again_in u → (step u b).again ≡ false → whole_step s b ≡ whole_step u b
+pub twice : (s t u : State) (b : ℕ) → step s b ≡ again_in t → step t b ≡ again_in u → (step u b).again ≡ false → whole_step s b ≡ whole_step u b
 twice s t u b e k h = ap (λ x. settled 3 x b) e ∙ ap (λ (x : Step). settled 2 x b) k ∙ settled_at_once 1 (step u b) b h ∙ sym (settled_at_once 3 (step u b) b h)
 
 alike : (s t u : State) (b : ℕ) (more : List ℕ) (tokens : List HtmlToken) → (b == 13) ≡ false → whole_step s b ≡ whole_step t b → Reads t (b ∷ more) tokens u → Reads s (b ∷ more) tokens u
@@ -35,7 +35,7 @@ alike s t u b more tokens n e h =
           ∙ (sym (ap (λ (v : Bool). go v (whole_step t (if v then 10 else b))) n) ∙ h.state_is);
     }
 
-in-comment-once : (acc : List ℕ) (b : ℕ) → (step (comment acc) b).again ≡ false
+pub in-comment-once : (acc : List ℕ) (b : ℕ) → (step (comment acc) b).again ≡ false
 in-comment-once acc b = neither_again (b == 60) _ _ refl (neither_again (b == 45) _ _ refl refl)
 
 comment_step : List ℕ → ℕ → Bool → Bool → Bool → Step
@@ -44,7 +44,7 @@ comment_step acc b less dash nul =
     else if dash then to (comment_end_dash acc)
     else to (comment (acc ++ (if nul then replacement else b ∷ [])))
 
-plain-step : (acc : List ℕ) (b : ℕ) → (b == 60) ≡ false → (b == 45) ≡ false → (b == 0) ≡ false → step (comment acc) b ≡ to (comment (acc ++ b ∷ []))
+pub plain-step : (acc : List ℕ) (b : ℕ) → (b == 60) ≡ false → (b == 45) ≡ false → (b == 0) ≡ false → step (comment acc) b ≡ to (comment (acc ++ b ∷ []))
 unfolding comment_step
 plain-step acc b l d z =
     ap (λ v. comment_step acc b v (b == 45) (b == 0)) l
@@ -57,28 +57,28 @@ less_step acc b bang less =
     else if less then to (comment_less_than_sign (acc ++ b ∷ []))
     else again_in (comment acc)
 
-less-step : (acc : List ℕ) (b : ℕ) → (b == 33) ≡ false → (b == 60) ≡ false → step (comment_less_than_sign acc) b ≡ again_in (comment acc)
+pub less-step : (acc : List ℕ) (b : ℕ) → (b == 33) ≡ false → (b == 60) ≡ false → step (comment_less_than_sign acc) b ≡ again_in (comment acc)
 unfolding less_step
 less-step acc b e l = ap (λ v. less_step acc b v (b == 60)) e ∙ ap (λ v. less_step acc b false v) l
 
 bang_step : List ℕ → Bool → Step
 bang_step acc dash = if dash then to (comment_less_than_sign_bang_dash acc) else again_in (comment acc)
 
-bang-step : (acc : List ℕ) (b : ℕ) → (b == 45) ≡ false → step (comment_less_than_sign_bang acc) b ≡ again_in (comment acc)
+pub bang-step : (acc : List ℕ) (b : ℕ) → (b == 45) ≡ false → step (comment_less_than_sign_bang acc) b ≡ again_in (comment acc)
 unfolding bang_step
 bang-step acc b d = ap (bang_step acc) d
 
 dash_step : List ℕ → Bool → Step
 dash_step acc dash = if dash then to (comment_end acc) else again_in (comment (acc ++ codes "-"))
 
-dash-step : (acc : List ℕ) (b : ℕ) → (b == 45) ≡ false → step (comment_end_dash acc) b ≡ again_in (comment (acc ++ codes "-"))
+pub dash-step : (acc : List ℕ) (b : ℕ) → (b == 45) ≡ false → step (comment_end_dash acc) b ≡ again_in (comment (acc ++ codes "-"))
 unfolding dash_step
 dash-step acc b d = ap (dash_step acc) d
 
 bang_dash_step : List ℕ → Bool → Step
 bang_dash_step acc dash = if dash then to (comment_less_than_sign_bang_dash_dash acc) else again_in (comment_end_dash acc)
 
-bang-dash-step : (acc : List ℕ) (b : ℕ) → (b == 45) ≡ false → step (comment_less_than_sign_bang_dash acc) b ≡ again_in (comment_end_dash acc)
+pub bang-dash-step : (acc : List ℕ) (b : ℕ) → (b == 45) ≡ false → step (comment_less_than_sign_bang_dash acc) b ≡ again_in (comment_end_dash acc)
 unfolding bang_dash_step
 bang-dash-step acc b d = ap (bang_dash_step acc) d
 

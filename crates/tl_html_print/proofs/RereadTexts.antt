@@ -6,6 +6,7 @@ use Rattle.std.specs.List.{list_all, list_any}
 use Rattle.std.specs.Prelude.{Option, ⊤}
 use Rattle.std.specs.Str.{bytes_eq}
 use Rattle.tl_dom_spec.specs.HtmlForest.{no_trees, text}
+use Rattle.tl_dom_spec.specs.Marks.{Marked}
 use Rattle.tl_dom_spec.specs.Tags.{Attribute}
 use Rattle.tl_html_print.proofs.Reread.{Reads, both-true, neither, one, then_reads}
 use Rattle.tl_html_print.specs.ReadAgain.{HoldsItself, IsReadAs, html_element, is_kept_in_value, is_plain_raw}
@@ -166,8 +167,8 @@ alone s bytes end tokens last h =
     let y : (tokens ++ []) ++ last ≡ tokens ++ last = ap (λ t. t ++ last) (append-nil tokens) in
     (ap (emitted (at s)) x ∙ h.tokens_are ∙ sym y, ap (after (at s)) x ∙ h.state_is)
 
-abbrev HoldsText : List Attribute → Option ℕ → List ℕ → List ℕ → Type 0
-HoldsText attributes source bytes name = HoldsItself (html_element name attributes source) (text bytes no_trees)
+abbrev HoldsText : List Attribute → Option ℕ → Marked (List ℕ) → List ℕ → Type 0
+HoldsText attributes source own name = HoldsItself (html_element name attributes source) (text own no_trees)
 
 rcdata-ends : (name end : List ℕ) (bytes : List ℕ) → list_all is_kept_in_value bytes ≡ true → Reads (raw (rcdata name)) end (EndTag name ∷ []) data_state →
     IsReadAs (raw (rcdata name)) ((escaped false bytes ++ []) ++ end) ((map Character bytes ++ []) ++ EndTag name ∷ [])
@@ -183,10 +184,10 @@ textarea-ends : Reads (raw (rcdata (codes "textarea"))) (codes "</textarea>") (E
 unfolding read
 textarea-ends = record { tokens_are = refl; state_is = refl }
 
-pub references_read : (name : List ℕ) (attributes : List Attribute) (source : Option ℕ) (bytes : List ℕ) → is_one_of (codes "title textarea") name ≡ true → list_all is_kept_in_value bytes ≡ true → HoldsItself (html_element name attributes source) (text bytes no_trees)
-references_read name attributes source bytes is h =
-    one-of (HoldsText attributes source bytes) (codes "title" ∷ codes "textarea" ∷ []) name
-    (rcdata-ends (codes "title") (codes "</title>") bytes h title-ends, (rcdata-ends (codes "textarea") (codes "</textarea>") bytes h textarea-ends, tt)) is
+pub references_read : (name : List ℕ) (attributes : List Attribute) (source : Option ℕ) (own : Marked (List ℕ)) → is_one_of (codes "title textarea") name ≡ true → list_all is_kept_in_value own.said ≡ true → HoldsItself (html_element name attributes source) (text own no_trees)
+references_read name attributes source own is h =
+    one-of (HoldsText attributes source own) (codes "title" ∷ codes "textarea" ∷ []) name
+    (rcdata-ends (codes "title") (codes "</title>") own.said h title-ends, (rcdata-ends (codes "textarea") (codes "</textarea>") own.said h textarea-ends, tt)) is
 
 raw-ends : (r : Raw) → IsRawText r → (end name bytes : List ℕ) → is_plain_raw bytes ≡ true → Reads (raw r) (60 ∷ end) (EndTag name ∷ []) data_state →
     IsReadAs (raw r) ((bytes ++ []) ++ 60 ∷ end) ((map Character bytes ++ []) ++ EndTag name ∷ [])
@@ -217,20 +218,20 @@ noframes-ends : Reads (raw (rawtext (codes "noframes"))) (codes "</noframes>") (
 unfolding read
 noframes-ends = record { tokens_are = refl; state_is = refl }
 
-pub raw_read : (name : List ℕ) (attributes : List Attribute) (source : Option ℕ) (bytes : List ℕ) → is_one_of (codes "style script xmp iframe noembed noframes") name ≡ true → is_plain_raw bytes ≡ true → HoldsItself (html_element name attributes source) (text bytes no_trees)
-raw_read name attributes source bytes is h =
-    one-of (HoldsText attributes source bytes) (codes "style" ∷ codes "script" ∷ codes "xmp" ∷ codes "iframe" ∷ codes "noembed" ∷ codes "noframes" ∷ []) name (
-      raw-ends (rawtext (codes "style")) (rawtext-is (codes "style")) (codes "/style>") (codes "style") bytes h style-ends,
+pub raw_read : (name : List ℕ) (attributes : List Attribute) (source : Option ℕ) (own : Marked (List ℕ)) → is_one_of (codes "style script xmp iframe noembed noframes") name ≡ true → is_plain_raw own.said ≡ true → HoldsItself (html_element name attributes source) (text own no_trees)
+raw_read name attributes source own is h =
+    one-of (HoldsText attributes source own) (codes "style" ∷ codes "script" ∷ codes "xmp" ∷ codes "iframe" ∷ codes "noembed" ∷ codes "noframes" ∷ []) name (
+      raw-ends (rawtext (codes "style")) (rawtext-is (codes "style")) (codes "/style>") (codes "style") own.said h style-ends,
       (
-        raw-ends script_data script-is (codes "/script>") (codes "script") bytes h script-ends,
+        raw-ends script_data script-is (codes "/script>") (codes "script") own.said h script-ends,
         (
-          raw-ends (rawtext (codes "xmp")) (rawtext-is (codes "xmp")) (codes "/xmp>") (codes "xmp") bytes h xmp-ends,
+          raw-ends (rawtext (codes "xmp")) (rawtext-is (codes "xmp")) (codes "/xmp>") (codes "xmp") own.said h xmp-ends,
           (
-            raw-ends (rawtext (codes "iframe")) (rawtext-is (codes "iframe")) (codes "/iframe>") (codes "iframe") bytes h iframe-ends,
+            raw-ends (rawtext (codes "iframe")) (rawtext-is (codes "iframe")) (codes "/iframe>") (codes "iframe") own.said h iframe-ends,
             (
-              raw-ends (rawtext (codes "noembed")) (rawtext-is (codes "noembed")) (codes "/noembed>") (codes "noembed") bytes h noembed-ends,
+              raw-ends (rawtext (codes "noembed")) (rawtext-is (codes "noembed")) (codes "/noembed>") (codes "noembed") own.said h noembed-ends,
               (
-                raw-ends (rawtext (codes "noframes")) (rawtext-is (codes "noframes")) (codes "/noframes>") (codes "noframes") bytes h noframes-ends,
+                raw-ends (rawtext (codes "noframes")) (rawtext-is (codes "noframes")) (codes "/noframes>") (codes "noframes") own.said h noframes-ends,
                 tt,
               ),
             ),

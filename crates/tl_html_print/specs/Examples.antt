@@ -1,11 +1,13 @@
 -- Words for worked rows. No contract cites them.
 use Prim.Native.String.{String}
-use Rattle.std.specs.Prelude.{List, None, codes, false, true, ℕ, ◌++◌}
+use Rattle.std.specs.Prelude.{Bool, List, None, codes, false, true, ℕ, ◌++◌}
 use Rattle.tl_dom_spec.specs.Examples.{inside_of_first}
 use Rattle.tl_dom_spec.specs.HtmlForest.{element, no_trees, text}
 use Rattle.tl_dom_spec.specs.HtmlTree.{html_tree_by, standard, with_scripting}
 use Rattle.tl_dom_spec.specs.Builder.{Flags}
+use Rattle.tl_dom_spec.specs.Marks.{unmarked}
 use Rattle.tl_dom_spec.specs.Tags.{AttributeSpace, bare_tag}
+use Rattle.tl_html_print.specs.Again.{is_read_again}
 use Rattle.tl_html_print.specs.Places.{inner_at, outer_at}
 use Rattle.tl_html_print.specs.Serialized.{escaped, serialized, serialized_attribute}
 
@@ -43,10 +45,18 @@ outer page number = outer_at false (html_tree_by standard (codes page)).trees nu
 abbrev pub inner : String → ℕ → List ℕ
 inner page number = inner_at false (html_tree_by standard (codes page)).trees number
 
+-- whether what the `body` element of a page holds is read again
+abbrev pub is_again : String → Bool
+is_again markup =
+    is_read_again
+    (inside_of_first (codes "body")
+    (inside_of_first (codes "html") (html_tree_by standard (codes "<body>" ++ codes markup)).trees))
+
 -- an element with text in it
 abbrev pub holding : String → String → List ℕ
 holding name bytes =
-    serialized false None (element (bare_tag (codes name)) (text (codes bytes) no_trees) no_trees)
+    serialized false None
+    (element (bare_tag (codes name)) (text (unmarked (codes bytes)) no_trees) no_trees)
 
 -- an attribute of a namespace, a key and a value
 abbrev pub keyed : AttributeSpace → String → String → List ℕ

@@ -1,5 +1,6 @@
 pub mod Serialized
 pub mod Places
 pub mod ReadAgain
+pub mod Again
 pub mod Examples
 pub mod Inner

@@ -28,8 +28,8 @@ unless_empty tag inner = if is_void tag then [] else inner
 
 abbrev pub tokens_of_trees : HtmlForest → List HtmlToken
 tokens_of_trees no_trees = []
-tokens_of_trees (text bytes more) = map Character bytes ++ tokens_of_trees more
-tokens_of_trees (comment bytes more) = CommentToken bytes ∷ tokens_of_trees more
+tokens_of_trees (text own more) = map Character own.said ++ tokens_of_trees more
+tokens_of_trees (comment own more) = CommentToken own.said ∷ tokens_of_trees more
 tokens_of_trees (doctype own more) = DoctypeToken ∷ tokens_of_trees more
 tokens_of_trees (element tag below more) =
     StartTag (lowered tag.name) (map attribute_read tag.attributes) false
@@ -65,9 +65,13 @@ abbrev pub is_name : List ℕ → Bool
 is_name [] = false
 is_name (b ∷ name) = if is_ascii_alphabetic b then list_all is_in_name (b ∷ name) else false
 
+-- a key may begin with `=`, and go on with none
+abbrev pub begins_key : ℕ → Bool
+begins_key b = is_in_key b || b == 61
+
 abbrev pub is_key : List ℕ → Bool
 is_key [] = false
-is_key (b ∷ key) = list_all is_in_key (b ∷ key)
+is_key (b ∷ key) = begins_key b && list_all is_in_key key
 
 -- keys and values that are read as they are, of which no key comes twice
 abbrev pub AreReadable : List HtmlAttribute → List Attribute → Type 0
@@ -96,12 +100,12 @@ HoldsItself tag below =
 
 abbrev pub CanBeReadAgain : HtmlForest → Type 0
 CanBeReadAgain no_trees = ⊤
-CanBeReadAgain (text bytes more) = (list_all is_kept bytes ≡ true) × CanBeReadAgain more
-CanBeReadAgain (comment bytes more) =
-    IsReadAs data_state (serialized_comment bytes) (CommentToken bytes ∷ [])
+CanBeReadAgain (text own more) = (list_all is_kept own.said ≡ true) × CanBeReadAgain more
+CanBeReadAgain (comment own more) =
+    IsReadAs data_state (serialized_comment own.said) (CommentToken own.said ∷ [])
     × CanBeReadAgain more
 CanBeReadAgain (doctype own more) =
-    (list_all is_in_doctype own.name ≡ true) × CanBeReadAgain more
+    (list_all is_in_doctype own.said.name ≡ true) × CanBeReadAgain more
 CanBeReadAgain (element tag below more) =
     IsReadable tag × ((HoldsMarkup tag × CanBeReadAgain below) ⊎ HoldsItself tag below)
     × CanBeReadAgain more

@@ -88,12 +88,12 @@ unless_void tag inner = if is_void tag then [] else inner
 -- a `template`
 abbrev pub serialized : Bool → Option Tag → HtmlForest → List ℕ
 serialized is_scripting parent no_trees = []
-serialized is_scripting parent (text bytes more) =
-    serialized_text is_scripting parent bytes ++ serialized is_scripting parent more
-serialized is_scripting parent (comment bytes more) =
-    serialized_comment bytes ++ serialized is_scripting parent more
+serialized is_scripting parent (text own more) =
+    serialized_text is_scripting parent own.said ++ serialized is_scripting parent more
+serialized is_scripting parent (comment own more) =
+    serialized_comment own.said ++ serialized is_scripting parent more
 serialized is_scripting parent (doctype own more) =
-    serialized_doctype own.name ++ serialized is_scripting parent more
+    serialized_doctype own.said.name ++ serialized is_scripting parent more
 serialized is_scripting parent (element tag below more) =
     start_tag tag
     ++ (unless_void tag (serialized is_scripting (parent_below tag) below)

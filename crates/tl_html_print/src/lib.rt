@@ -1,6 +1,7 @@
 //! Trees of pages printed, as the HTML standard serializes them (13.3).
 #![tactic(auto)]
 
+mod again_examples;
 mod attribute;
 mod element;
 mod escape;

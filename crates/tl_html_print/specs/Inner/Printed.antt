@@ -35,9 +35,9 @@ is_void_at rows number = unwrap_or (option_map is_void (tag_at rows number)) fal
 abbrev pub opened : Bool → Option Tag → Node → List ℕ
 opened is_scripting parent (an_element tag) = start_tag tag
 opened is_scripting parent contents = []
-opened is_scripting parent (a_text bytes) = serialized_text is_scripting parent bytes
-opened is_scripting parent (a_comment bytes) = serialized_comment bytes
-opened is_scripting parent (a_doctype own) = serialized_doctype own.name
+opened is_scripting parent (a_text own) = serialized_text is_scripting parent own.said
+opened is_scripting parent (a_comment own) = serialized_comment own.said
+opened is_scripting parent (a_doctype own) = serialized_doctype own.said.name
 
 abbrev pub opened_at : Bool → List Row → ℕ → List ℕ
 opened_at is_scripting rows number =
