@@ -1,0 +1,14 @@
+pub mod Boxes
+pub mod Flowing
+pub mod Readable
+pub mod Runs
+pub mod Named
+pub mod Numbers
+pub mod Spans
+pub mod Refresh
+pub mod Candidates
+pub mod UrlKeys
+pub mod Links
+pub mod Table
+pub mod Inner
+pub mod Examples

@@ -1,0 +1,45 @@
+//! The readable text of a page.
+ghost use Rattle.std.specs.Prelude.{OnOk, ◌++◌, ◌≡◌};
+ghost use Rattle.tl_tree.specs.TreeView.{rows_in};
+ghost use Rattle.tl_tree_extract.specs.Readable.{readable_below, readable_rows};
+
+mod display;
+mod examples;
+mod flow;
+mod rows;
+
+use crate::text::rows::{is_kept, write_rows};
+use std::alloc::AllocError;
+use tl_tree::Tree;
+
+/// Writes the readable text of what is below a node, but for nodes with a mark and what is below
+/// those: nothing where there is no such node.
+///
+/// The text of a node with no box, as a `title`, is what it would be if it had one.
+pub fn write_readable_text(
+    tree: &Tree<'_>,
+    number: usize,
+    left_out: &[bool],
+    out: &mut Vec<u8>,
+) -> Result<(), AllocError>
+    ensures { OnOk result (out.new.items
+        ≡ out.old.items ++ readable_below left_out.now (rows_in tree.now) number) }
+{
+    let Some(end) = tree.end(number) else {
+        return Ok(());
+    };
+    let kept = if is_kept(tree, number) { end } else { 0 };
+    write_rows(tree, left_out, number + 1, end, kept, out)
+}
+
+/// Writes the readable text of all of a tree, but for nodes with a mark and what is below those.
+pub fn write_readable_document(
+    tree: &Tree<'_>,
+    left_out: &[bool],
+    out: &mut Vec<u8>,
+) -> Result<(), AllocError>
+    ensures { OnOk result (out.new.items
+        ≡ out.old.items ++ readable_rows left_out.now (rows_in tree.now)) }
+{
+    write_rows(tree, left_out, 0, tree.len(), 0, out)
+}
