@@ -320,6 +320,10 @@ What is empty, and what stands at the top.
   0
   $ tl select -n --as-is ':root > p' deep
   7
+  $ printf '<html><p>a' | tl select ':scope > p'
+  <p>a</p>
+  $ printf '<html><p>a' | tl select '& > p'
+  <p>a</p>
   $ tl select -n --as-is span:empty mixed
   15
   $ tl select -n --as-is p:empty mixed
@@ -525,8 +529,8 @@ What is said of texts that are no selectors: each cause, and each thing to write
   $ tl select 'a*' none
   tl: no selector: at byte 1: this can't stand here: `*` (err)
   [2]
-  $ tl select 'a é &' none
-  tl: no selector: at byte 5: this can't stand here: `&` (it may stand in quotes in a value, and behind `\` in a name) (err)
+  $ tl select 'a é %' none
+  tl: no selector: at byte 5: this can't stand here: `%` (it may stand in quotes in a value, and behind `\` in a name) (err)
   [2]
   $ tl select '[k=v é]' none
   tl: no selector: at byte 5: the only flags are `i` and `s`: `é` (err)

@@ -12,7 +12,7 @@ fn implied_in(test: &Test) -> Option<&'static str> {
         return None;
     };
     for implied in IMPLIED {
-        if implied.as_bytes() == name.as_slice() {
+        if implied.as_bytes() == name.lower.as_slice() {
             return Some(implied);
         }
     }

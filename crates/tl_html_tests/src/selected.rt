@@ -6,7 +6,7 @@ use tl_tree::Tree;
 
 // A page, a selector, and the numbers of the elements where it holds.
 #[rattlefmt::skip]
-static ROWS: [(&[u8], &str, &[usize]); 34] = [
+static ROWS: [(&[u8], &str, &[usize]); 41] = [
     (b"<p>a<p>b", "p", &[3, 5]),
     (b"<P>a", "P", &[3]),
     (b"<p>a<p>b", "body > *", &[3, 5]),
@@ -34,7 +34,15 @@ static ROWS: [(&[u8], &str, &[usize]); 34] = [
     (b"<!DOCTYPE html><p class=ab>", ".a", &[]),
     // (names and keys of `svg` stand in their own case)
     (b"<svg viewbox=a><lineargradient>", "linearGradient", &[4]),
-    (b"<svg viewbox=a><lineargradient>", "[VIEWBOX]", &[3]),
+    (b"<svg viewbox=a><lineargradient>", "lineargradient, [VIEWBOX], [viewbox]", &[]),
+    (b"<svg viewbox=a><lineargradient>", "[viewBox]", &[3]),
+    (b"<p viewbox=a>", "[VIEWBOX], [viewBox=b]", &[3]),
+    (b"<svg><desc><P>", "P, DESC", &[5]),
+    // (a document is searched from its root)
+    (b"<!DOCTYPE html><p>", ":scope, :scope > body", &[1, 3]),
+    (b"<!DOCTYPE html><p>", "& > body > p:not(&)", &[4]),
+    (b"<p>", "/**/:root/**/>/**/body", &[2]),
+    (b"<template><p></template>", ":root", &[0]),
     (b"<svg xlink:href=a>", "[href], [xlink\\:href]", &[]),
     (b"<p xlink:href=a>", "[xlink\\:href]", &[3]),
     // (values of some keys are compared in any case at elements of HTML)
@@ -59,6 +67,33 @@ static ASKED: [(&[u8], &str, usize, bool); 5] = [
     (b"<p>a<p>b", "*", 4, false),
     (b"<p>a<p>b", "p", 9, false),
     (b"<template><p>a<p>b</template>", "p + p", 6, true),
+];
+
+// A page, a selector, a number, and the numbers below it where it holds.
+#[rattlefmt::skip]
+static BELOW: [(&[u8], &str, usize, &[usize]); 10] = [
+    (b"<div><p>a<p>b</div><p>c", "p", 3, &[4, 6]),
+    (b"<div><p>a<p>b</div><p>c", ":scope > p", 3, &[4, 6]),
+    (b"<div><p>a<p>b</div><p>c", ":scope > p", 2, &[8]),
+    (b"<div><p>a<p>b</div><p>c", "body p + p", 3, &[6]),
+    (b"<div><p>a<p>b</div><p>c", "div, :scope, :root", 3, &[]),
+    (b"<div><p>a<p>b</div><p>c", "p", 99, &[]),
+    (b"<div><template><p></template><p></div>", "p", 3, &[7]),
+    (b"<div><template><p></template><p></div>", "p", 4, &[]),
+    (b"<div><template><p></template><p></div>", "p, :root", 5, &[6]),
+    (b"<div><p></p></div>", "p:not(& p)", 3, &[]),
+];
+
+// A page, a selector, a number, and that of the innermost element around it where it holds.
+#[rattlefmt::skip]
+static CLOSEST: [(&[u8], &str, usize, Option<usize>); 7] = [
+    (b"<div><p>a</div>", "div, body", 4, Some(3)),
+    (b"<div><p>a</div>", "p, div", 4, Some(4)),
+    (b"<div><p>a</div>", "p, div", 5, Some(4)),
+    (b"<div><p>a</div>", ":scope", 4, Some(4)),
+    (b"<div><p>a</div>", "i", 4, None),
+    (b"<div><p>a</div>", "*", 99, None),
+    (b"<div><template><p></template></div>", "div", 6, None),
 ];
 
 fn are_found(alloc: Global, page: &[u8], selector: &Selector, numbers: &[usize]) -> bool {
@@ -115,5 +150,53 @@ fn selectors_are_found(rt: HostRuntime) {
 fn nodes_are_matched(rt: HostRuntime) {
     for (page, selector, number, holds) in &ASKED {
         assert!(rt; is_answered(rt.alloc(), page, selector, *number, *holds));
+    }
+}
+
+fn are_below(alloc: Global, page: &[u8], selector: &str, number: usize, numbers: &[usize]) -> bool {
+    let (Ok(tree), Ok(selector)) = (
+        Tree::read(alloc, page, STANDARD),
+        tl_css::parse(alloc, selector),
+    ) else {
+        return false;
+    };
+    match tl_tree_select::below(alloc, &tree, number, &selector) {
+        Ok(found) => found.as_slice() == numbers,
+        Err(_) => false,
+    }
+}
+
+fn is_closest(
+    alloc: Global,
+    page: &[u8],
+    selector: &str,
+    number: usize,
+    closest: Option<usize>,
+) -> bool {
+    let (Ok(tree), Ok(selector)) = (
+        Tree::read(alloc, page, STANDARD),
+        tl_css::parse(alloc, selector),
+    ) else {
+        return false;
+    };
+    match tl_tree_select::closest(alloc, &tree, number, &selector) {
+        Ok(found) => found == closest,
+        Err(_) => false,
+    }
+}
+
+#[test]
+fn selectors_hold_below(rt: HostRuntime) {
+    for (page, selector, number, numbers) in &BELOW {
+        let holds = are_below(rt.alloc(), page, selector, *number, numbers);
+        assert!(rt; holds);
+    }
+}
+
+#[test]
+fn selectors_hold_closest(rt: HostRuntime) {
+    for (page, selector, number, closest) in &CLOSEST {
+        let holds = is_closest(rt.alloc(), page, selector, *number, *closest);
+        assert!(rt; holds);
     }
 }

@@ -1,13 +1,13 @@
 //! Texts that are selectors, with the steps that they are read as.
 use std::alloc::{AllocError, Global};
 use tl_css::parse;
-use tl_css::selector::{Formula, Link, Op, Reach, Step, Test, Way};
+use tl_css::selector::{Anchor, Formula, Link, Op, Reach, Step, Test, Way};
 
 // A selector, and its steps. A test stands for itself; `&` puts one to what is there, `!` turns it,
 // `+` puts two together, `|` joins two; `<` and `>` are links from here and to here, with `p`, `s`
 // or `t` for a parent, a sibling or a twin, and `1` or `*` for how far; `#` counts along them.
 #[rattlefmt::skip]
-static READ: [(&str, &str); 88] = [
+static READ: [(&str, &str); 90] = [
     // Simple selectors.
     ("*", "*"),
     ("p", "p"),
@@ -89,7 +89,9 @@ static READ: [(&str, &str); 88] = [
     (":first-of-type", "* <t1 !"),
     (":last-of-type", "* >t1 !"),
     (":only-of-type", "* <t1 ! * >t1 ! +"),
-    (":root", "* <p1 !"),
+    (":root", "@r @r <p1 ! +"),
+    (":scope > a", "@s @s <p1 ! + <p1 &a"),
+    ("a/**/&", "a @s @s <p1 ! + +"),
     ("p:empty", "p &<>"),
     (":f\\69rst-child", "* <s1 !"),
     (":not(a)", "a !"),
@@ -181,14 +183,18 @@ fn add_marked(out: &mut Vec<u8>, mark: &[u8], name: &[u8], end: &[u8]) -> Result
 fn add_test(out: &mut Vec<u8>, test: &Test) -> Result<(), AllocError> {
     match test {
         Test::Any => out.extend_from_slice(b"*"),
-        Test::Name(name) => out.extend_from_slice(name.as_slice()),
+        Test::Name(name) => out.extend_from_slice(name.lower.as_slice()),
         Test::Id(id) => add_marked(out, b"#", id.as_slice(), b""),
         Test::Class(class) => add_marked(out, b".", class.as_slice(), b""),
-        Test::Key(key) => add_marked(out, b"[", key.as_slice(), b"]"),
+        Test::Key(key) => add_marked(out, b"[", key.lower.as_slice(), b"]"),
         Test::Value(key, op, value, folds) => {
-            add_value(out, key.as_slice(), *op, value.as_slice(), *folds)
+            add_value(out, key.lower.as_slice(), *op, value.as_slice(), *folds)
         }
         Test::Empty => out.extend_from_slice(b"<>"),
+        Test::May(anchor) => out.extend_from_slice(match anchor {
+            Anchor::Root => b"@r",
+            Anchor::Scope => b"@s",
+        }),
     }
 }
 
