@@ -55,6 +55,8 @@ TREED = (
     ("<p>", "<b x=%>", "</p>", "<p>x</p>"), ("", "<p><b x=%>"), ("", "<p><b>x</p>"), ("", "<a href=x>x"), ("", "<a href=x><div>x"),
     ("<b>", "<div>", "", "</b>"), ("<b>", "<div><span>", "", "</b>"), ("", "<i><p>", "", "</i>"), ("", "<b><i><div>", "", "</b></i>"),
     ("", "<span>", "", "</x>"), ("<x><div>", "<span>", "", "</x>"), ("", "<span>", "<div>", "</span>"), ("", "<x%>", "", "</y%>"),
+    ("", "<x%>", "", "</x%>"), ("", "<x%></x%>"), ("<x><div>", "<x%>", "", "</x>"), ("<svg>", "<x%>", "", "</y%>"),
+    ("<svg>", "<lineargradient><x%>", "", "</lineargradient>"),
     ("", "<div>", "", "</p>"), ("", "<div>", "", "</section>"), ("", "<div>", "", "<svg/>"), ("", "<div>", "", "<table></table>"),
     ("", "<dl><dd>"), ("", "<ul><li>"), ("", "<dd><span>"), ("", "<p><span>"), ("", "<nobr>x"), ("", "<form><div></form>"),
     ("", "<object><b>", "", "</b>"), (f"{TWENTY}", "<p>x</p>"), (f"<p>{TWENTY}", "<p>x"), ("<select>", "<option>x"), ("", "<select><div>"),
@@ -62,6 +64,7 @@ TREED = (
     ("<table>", "<tr><td><b><p>x"), ("", "<table><caption>"), ("", "<template>"),
     ("<svg>", "<g>", "", "</y>"), ("", "<svg><desc><a>", "", "</y>"), ("", "<svg>", "", "</svg>"), ("<svg>", "<g>", "<desc>", "<a>x</a>"),
     ("<math><annotation-xml ", "x%=1 ", ">", "<!x>"), ("", "<html x%=1>"), ("<html ", "x%=1 ", ">", "<html x0=1>"), ("<body>", "<body x%=1>"),
+    ("", "<html x%=1><body x%=1>"), ("<html ", "x%=1 ", "><html ", "y%=1 ", ">"), ("<html ", "x%=1 ", ">", "<html x%=1>"), ("<html x=1>", "<html x=1>"),
     ("<p ", "x%=1 ", ">"), ("<p ", "a%='&amp;' ", ">"), ("<p><b ", "x% ", "><b ", "x% ", "><b ", "x% ", ">"),
     ("", "&CounterClockwiseContourInt"), ("", "\rx"), ("", "<!--x--"), ("<script><!--<script>", "</scrip"), ("<title>", "</titl"),
 )

@@ -8,8 +8,12 @@
 //! | `without-search` | that `search` isn't counted as a special element |
 //! | `fragment CONTEXT` | that each is a fragment, and its context element: the name of an HTML element, or `svg NAME` or `math NAME` as one word |
 //! | `print` | that prints are written in the place of trees (`prints`) |
+//! | `text` | that the readable text is written in the place of trees |
 //! | `select SELECTOR` | that the elements are asked for where the selector holds: in the place of a tree stands a line with their numbers among the elements of the document, from 0 |
-//! | `time` | that one page is on standard input, which is read alone: what is written is how many nodes it has, or `refused`, and how long the reading and the drop took, in microseconds; with `print` before it how many bytes the document's print has, and how long the print took |
+//! | `table NUMBER` | that the table of this number among those of the document is asked for, from 1 (`parts`) |
+//! | `links` | that the links are asked for (`parts`) |
+//! | `below NUMBER`, `closest NUMBER` | before `select`: that they are asked for below the element of this number, or that the innermost one from it outwards is |
+//! | `time` | that one page is on standard input, which is read alone: what is written is how many nodes it has, or `refused`, and how long the reading and the drop took, in microseconds; with `print` or `text` before it how many bytes that has of the document, and how long it took to write |
 //!
 //! The status is 1 where a word or the selector is not understood, 3 where memory runs out, and 4 where reading or
 //! writing fails.
@@ -17,10 +21,12 @@
 
 mod lines;
 mod numbers;
+mod parts;
 mod prints;
 
 use lines::{NoRoom, put_tree};
-use numbers::put_numbers;
+use numbers::{Search, put_numbers};
+use parts::{put_links, put_table};
 use prints::put_prints;
 use std::alloc::Global;
 use std::process::ExitCode;
@@ -30,6 +36,7 @@ use std::{env, io, mem};
 use tl_css::{Selector, SelectorError};
 use tl_html_print::write_document;
 use tl_tree::{Context, Flags, Namespace, ReadError, Tree};
+use tl_tree_extract::text::write_readable_document;
 
 // What stands between two pages.
 const SEPARATOR: u8 = 0x1E;
@@ -68,11 +75,16 @@ impl From<io::Error> for Failed {
 struct Asked {
     flags: Flags,
     is_printed: bool,
+    is_text: bool,
     is_timed: bool,
     /// The context element of fragments.
     context: Option<String>,
     /// Whose elements are asked for.
     selector: Option<Selector>,
+    /// The number of the table that is asked for.
+    table: Option<usize>,
+    are_links: bool,
+    search: Search,
 }
 
 fn main(rt: HostRuntime) -> ExitCode {
@@ -86,8 +98,8 @@ fn run(rt: &HostRuntime) -> Result<(), Failed> {
     let asked = asked(rt)?;
     let mut pages = Vec::new(rt.alloc());
     rt.stdin().read_to_end(&mut pages)?;
-    if asked.is_timed && asked.is_printed {
-        return time_print(rt, pages.as_slice(), asked.flags);
+    if asked.is_timed && (asked.is_printed || asked.is_text) {
+        return time_written(rt, pages.as_slice(), &asked);
     }
     if asked.is_timed {
         return time(rt, pages.as_slice(), asked.flags);
@@ -106,9 +118,13 @@ fn asked(rt: &HostRuntime) -> Result<Asked, Failed> {
             counts_search: true,
         },
         is_printed: false,
+        is_text: false,
         is_timed: false,
         context: None,
         selector: None,
+        table: None,
+        are_links: false,
+        search: Search::Document,
     };
     let mut words = env::args(rt)?.skip(1);
     while let Some(word) = words.next() {
@@ -116,11 +132,19 @@ fn asked(rt: &HostRuntime) -> Result<Asked, Failed> {
             "scripting" => asked.flags.is_scripting = true,
             "without-search" => asked.flags.counts_search = false,
             "print" => asked.is_printed = true,
+            "text" => asked.is_text = true,
+            "links" => asked.are_links = true,
+            "table" => match words.next() {
+                Some(number) => asked.table = number.as_str().parse::<usize>().ok(),
+                None => return Err(Failed::NotUnderstood),
+            },
             "time" => asked.is_timed = true,
             "fragment" => match words.next() {
                 Some(context) => asked.context = Some(context),
                 None => return Err(Failed::NotUnderstood),
             },
+            "below" => asked.search = Search::Below(number(words.next())?),
+            "closest" => asked.search = Search::Closest(number(words.next())?),
             "select" => {
                 let Some(text) = words.next() else {
                     return Err(Failed::NotUnderstood);
@@ -131,6 +155,14 @@ fn asked(rt: &HostRuntime) -> Result<Asked, Failed> {
         }
     }
     Ok(asked)
+}
+
+// The number that a word says.
+fn number(word: Option<String>) -> Result<usize, Failed> {
+    let Some(word) = word else {
+        return Err(Failed::NotUnderstood);
+    };
+    word.as_str().parse::<usize>().map_err(|_| Failed::NotUnderstood)
 }
 
 // Reads a page, and says how long that took.
@@ -173,16 +205,20 @@ fn read<'p>(alloc: Global, page: &'p [u8], asked: &Asked) -> Result<Tree<'p>, Re
     }
 }
 
-// Prints the document of a page, and says how long that took.
-fn time_print(rt: &HostRuntime, page: &[u8], flags: Flags) -> Result<(), Failed> {
-    let Ok(tree) = Tree::read(rt.alloc(), page, flags) else {
+// Writes the document of a page or its readable text, and says how long that took.
+fn time_written(rt: &HostRuntime, page: &[u8], asked: &Asked) -> Result<(), Failed> {
+    let Ok(tree) = Tree::read(rt.alloc(), page, asked.flags) else {
         return Ok(println!(rt; "refused 0")?);
     };
     let mut out = Vec::new(rt.alloc());
     let start = Instant::now(rt)?;
-    let printed = write_document(&tree, flags.is_scripting, &mut out);
+    let written = if asked.is_text {
+        write_readable_document(&tree, &[], &mut out)
+    } else {
+        write_document(&tree, asked.flags.is_scripting, &mut out)
+    };
     let taken = start.elapsed(rt)?.as_micros();
-    printed.map_err(NoRoom::from)?;
+    written.map_err(NoRoom::from)?;
     println!(rt; "{} {}", out.len(), taken)?;
     Ok(())
 }
@@ -207,7 +243,10 @@ fn put_asked(
     asked: &Asked,
 ) -> Result<(), NoRoom> {
     match &asked.selector {
-        Some(selector) => put_numbers(alloc, out, tree, selector),
+        Some(selector) => put_numbers(alloc, out, tree, selector, asked.search),
+        None if asked.is_text => Ok(write_readable_document(tree, &[], out)?),
+        None if asked.are_links => put_links(alloc, out, tree),
+        None if asked.table.is_some() => put_table(alloc, out, tree, asked.table.unwrap_or(0)),
         None if asked.is_printed => put_prints(out, tree, asked.flags.is_scripting),
         None => put_tree(alloc, out, tree),
     }
