@@ -7,6 +7,9 @@
     ./x compare html --code [--chromium] [--trees FOLDER] [--runs N] [--seed N] [--page FILE..] [--program FILE]
     ./x compare html --prints [--chromium] [--runs N] [--seed N] [--program FILE]
     ./x compare html --select [--runs N] [--seed N] [--program FILE]
+    ./x compare html --text --page FILE.. [--program FILE]
+    ./x compare html --tables [--runs N] [--seed N] [--page FOLDER..] [--program FILE]
+    ./x compare html --links --page FOLDER.. [--program FILE]
     ./x compare html --clauses [--show N]
     ./x compare html --row TEXT
     ./x compare html --tree TEXT [--inside NAME] [--scripting]
@@ -29,7 +32,9 @@ made-up pages. With --code the trees of `crates/tl_tree` are compared with the m
 in the folder, or with --chromium with Chromium on made-up pages: those that the program of tools/trees writes, built unproved, unless
 --program names one. With --prints what `crates/tl_html_print` prints of made-up pages, and of each node of these, is compared with a port
 of 13.3 over the model, or with Chromium. With --select where `crates/tl_tree_select` finds made-up selectors in made-up pages is compared with
-Chromium, of so many pairs. With --clauses the worked rows of that crate are
+Chromium, of so many pairs. With --text the readable text that `crates/tl_tree_extract` has of files is compared with Chromium's `innerText`, line by
+line. With --tables the slots of made-up tables in `crates/tl_tree_extract` are compared with a plain reader of the standard's
+steps, and with Chromium, as are the first tables of pages in folders; with --links the links of such pages. With --clauses the worked rows of that crate are
 computed in the same way, and for each clause of its definitions rows are named, --show N of them (3), that would be others without
 it; NO ROW stands where none would. With --tree it writes the trees of a text as these rows have them.
 
@@ -177,6 +182,9 @@ def main(parser, words):
     parser.add_argument("--code", action="store_true")
     parser.add_argument("--select", action="store_true")
     parser.add_argument("--prints", action="store_true")
+    parser.add_argument("--text", action="store_true")
+    parser.add_argument("--tables", action="store_true")
+    parser.add_argument("--links", action="store_true")
     parser.add_argument("--chromium", action="store_true")
     parser.add_argument("--clauses", action="store_true")
     parser.add_argument("--tree", metavar="TEXT")
@@ -203,13 +211,19 @@ def main(parser, words):
         from html5lib._tokenizer import HTMLTokenizer
         from html5lib.constants import tokenTypes
 
-        from . import tree_program, tree_selectors, tree_tests
+        from . import tree_program, tree_selectors, tree_tables, tree_tests, tree_text
     except ImportError:
         print("compare html: html5lib isn't installed", file=sys.stderr)
         return 3
     warnings.simplefilter("ignore")
     if words.select:
         return 1 if tree_selectors.compared(words) else 0
+    if words.text:
+        return 1 if tree_text.compared(words, pages_of(words.page)) else 0
+    if words.tables:
+        return 1 if tree_tables.compared_tables(words) else 0
+    if words.links:
+        return 1 if tree_tables.compared_links(words) else 0
     if words.prints:
         return 1 if tree_program.compared_prints(words, PIECES) else 0
     if words.code:

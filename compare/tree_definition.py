@@ -64,9 +64,10 @@ def lines_of(forest, depth=0):
             found += element_lines(first, forest, depth)
             forest = more[0]
         elif kind == "doctype":
-            found.append(pad + doctype_line(first))
+            found.append(pad + doctype_line(first["said"]))
         else:
-            found.append(f'{pad}"{text_of(first)}"' if kind == "text" else f"{pad}<!-- {text_of(first)} -->")
+            said = text_of(first["said"])
+            found.append(f'{pad}"{said}"' if kind == "text" else f"{pad}<!-- {said} -->")
     return found
 
 

@@ -1,5 +1,8 @@
 """Where selectors hold in misnested pages: `crates/tl_tree_select`, by the program of tools/trees, beside Chromium.
 
+A document is searched, or below an element of it, or from one outwards. Chromium asks elements of svg and math for names and keys in any
+case, so what has such elements is asked in exact case, and names are written in any case where there are none.
+
 Elements are told by their numbers among those of the document, without the contents of templates. Pages of which Chromium builds another
 tree are left out.
 """
@@ -13,6 +16,7 @@ from . import tree_tests
 from .chromium import all_answers, answers, chromium, version
 from .tree_program import SEPARATOR, SHOWN, trees
 
+FOREIGN = "svg math g linearGradient foreignObject mi mtext annotation-xml".split()
 NAMES = """p b i a div span li ul table tr td th tbody caption svg math g linearGradient foreignObject template h1 em nobr form input
 button title style font dl dd dt mi mtext annotation-xml image br hr pre textarea""".split()
 KEYS = "id class type lang href xlink:href viewBox data-x DIR Rel align xml:lang definitionURL checked title".split()
@@ -20,7 +24,7 @@ VALUES = ["a", "A", "b", "x y", "A b", "text", "TEXT", "Foo", "foo", "en", "en-U
 WORDS = ["a", "A", "b", "x", "y", "Foo", "foo", "xa", "text"]
 DOCTYPES = ["", "<!doctype html>", "<!doctype html><html lang=en><head><title>t</title></head><body class=b>", '<!doctype html public "-//W3C//DTD HTML 3.2//EN">']
 OPS = ["=", "~=", "|=", "^=", "$=", "*="]
-PLAIN = "first-child last-child only-child first-of-type last-of-type only-of-type root empty".split()
+PLAIN = "first-child last-child only-child first-of-type last-of-type only-of-type root scope scope empty".split()
 COUNTED = "nth-child nth-last-child nth-of-type nth-last-of-type".split()
 FORMULAS = ["1", "2", "odd", "even", "2n+1", "-n+2", "3n", "n+2", "n"]
 # So many pages with so many selectors are asked at once.
@@ -30,11 +34,16 @@ PAGES, SELECTORS = 50, 200
 class Maker:
     """Made-up pages and selectors, of the same names, keys and values."""
 
-    def __init__(self, seed):
-        self.chance = random.Random(seed)
+    def __init__(self, seed, is_foreign):
+        self.chance, self.is_foreign = random.Random(seed), is_foreign
+        self.names = NAMES if is_foreign else [it for it in NAMES if it not in FOREIGN]
+
+    def search(self):
+        """How a selector is looked for: in the document, or below an element of it, or from one outwards."""
+        return [self.chance.choice(["document", "document", "below", "closest"]), self.chance.randrange(1000)]
 
     def cased(self, text):
-        return text if self.chance.random() < 0.7 else "".join(self.chance.choice([it, it.upper()]) for it in text)
+        return text if self.is_foreign or self.chance.random() < 0.7 else "".join(self.chance.choice([it, it.upper()]) for it in text)
 
     def attribute(self):
         value = "" if self.chance.random() < 0.08 else f'="{self.chance.choice(VALUES)}"'
@@ -49,16 +58,17 @@ class Maker:
         for _ in range(self.chance.randint(5, 40)):
             draw = self.chance.random()
             if draw < 0.55:
-                opened.append(self.chance.choice(NAMES))
+                opened.append(self.chance.choice(self.names))
                 parts.append(self.start_tag(opened[-1]))
             elif draw < 0.82 and opened:
-                parts.append(f"</{self.chance.choice(opened[-4:] if self.chance.random() < 0.8 else NAMES)}>")
+                parts.append(f"</{self.chance.choice(opened[-4:] if self.chance.random() < 0.8 else self.names)}>")
             else:
                 parts.append(self.chance.choice(["x", " ", "a b", "\n", "&amp;", "<!-- c -->", "<!---->", "<!doctype x>"]))
         return "".join(parts)
 
     def key(self):
-        return self.cased(self.chance.choice(KEYS)).replace(":", "\\:")
+        key = self.chance.choice(KEYS)
+        return (key.lower() if self.is_foreign and key in ("DIR", "Rel") else self.cased(key)).replace(":", "\\:")
 
     def test(self):
         value = self.chance.choice(VALUES).replace("\t", "\\9 ")
@@ -84,20 +94,27 @@ class Maker:
         return f":{word}({counted}{self.selector(depth)})"
 
     def compound(self, depth):
-        name = self.cased(self.chance.choice([*NAMES, "*", "body", "html", "head", "svg", "p", "td"])) if self.chance.random() < 0.6 else ""
+        name = self.cased(self.chance.choice([*self.names, "*", "body", "html", "head", "p", "td"])) if self.chance.random() < 0.6 else ""
         return name + "".join(self.simple(depth) for _ in range(self.chance.choice([0, 0, 1, 1, 2] if name else [1, 1, 2])))
 
     def complex(self, depth):
         joints = [self.chance.choice([" ", " > ", " + ", " ~ "]) for _ in range(self.chance.choice([0, 0, 0, 1, 1, 2]))]
         return self.compound(depth) + "".join(joint + self.compound(depth) for joint in joints)
 
+    def whole(self):
+        """A selector, or one that begins at what is searched."""
+        if self.chance.random() < 0.8:
+            return self.selector()
+        return self.chance.choice([":scope", "&"]) + self.chance.choice([" ", " > ", " + ", " ~ "]) + self.complex(0)
+
     def selector(self, depth=0):
         return ", ".join(self.complex(depth) for _ in range(self.chance.choice([1, 1, 1, 2])))
 
 
-def found(program, selector, pages):
+def found(program, selector, search, pages):
     """The numbers of the elements that the program finds in each page, or nothing where it reads no selector."""
-    asked = run([program, "without-search", "select", selector], given=SEPARATOR.join(pages).encode(), limit=600)
+    kind, number = search
+    asked = run([program, "without-search", *([] if kind == "document" else [kind, str(number)]), "select", selector], given=SEPARATOR.join(pages).encode(), limit=600)
     if asked.status == 1:
         return None
     if asked.status:
@@ -110,14 +127,15 @@ def compared(words):
     program, browser = words.program or helper_build("trees"), chromium()
     pairs = hits = left_out = differ = 0
     for batch in range((words.runs + PAGES * SELECTORS - 1) // (PAGES * SELECTORS)):
-        maker = Maker(words.seed * 10**6 + batch)
+        maker = Maker(words.seed * 10**6 + batch, batch % 2 == 0)
         made = [maker.page() for _ in range(PAGES)]
         lines = ["\n".join(it) for it in all_answers(browser, "documents.html", made, tree_tests.BATCH)]
         pages = [page for page, ours, theirs in zip(made, trees(program, made, "without-search"), lines) if ours == theirs]
         left_out += len(made) - len(pages)
-        selectors = [maker.selector() for _ in range(SELECTORS)]
-        for selector, wanted in zip(selectors, answers(browser, "tree_selectors.html", [{"pages": pages, "selectors": selectors}])):
-            ours = found(program, selector, pages)
+        selectors, searches = [maker.whole() for _ in range(SELECTORS)], [maker.search() for _ in range(SELECTORS)]
+        asked = [{"pages": pages, "selectors": selectors, "searches": searches}]
+        for selector, search, wanted in zip(selectors, searches, answers(browser, "tree_selectors.html", asked)):
+            ours = found(program, selector, search, pages)
             if ours is None or wanted is None:
                 continue
             pairs, hits = pairs + len(pages), hits + sum(map(bool, wanted))
@@ -125,6 +143,6 @@ def compared(words):
                 if is_ != should:
                     differ += 1
                     if differ <= SHOWN:
-                        print(f"{selector!r} in {page!r}: {is_}, and {should} in Chromium", flush=True)
+                        print(f"{selector!r} ({search}) in {page!r}: {is_}, and {should} in Chromium", flush=True)
     print(f"{version(browser)}, {pairs} pairs of a page and a selector, of which {hits} find something: {differ} differ; {left_out} pages left out, as they have another tree there")
     return differ
