@@ -10,3 +10,4 @@ pub mod Rests
 pub mod Tags
 pub mod Naming
 pub mod Carried
+mod Lower
