@@ -10,6 +10,7 @@ pub mod Formula
 pub mod PseudoClass
 pub mod Item
 pub mod Reading
+pub mod Relative
 pub mod SimpleGrammar
 pub mod Grammar
 pub mod FirstWrong
@@ -18,3 +19,4 @@ pub mod TextView
 pub mod SimpleView
 pub mod ItemView
 pub mod StateView
+pub mod Examples

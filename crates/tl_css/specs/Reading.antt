@@ -160,12 +160,15 @@ abbrev pub go_on : (State → Result Css Wrong) → Taken → Result Css Wrong
 go_on more (Goes st) = more st
 go_on more (Done e) = Ok e
 
--- the selector that at most n items leave
+-- the selector that at most n items leave, of which each is read by the same function
+abbrev pub within_by : (Open → List ℕ → Read Item) → ℕ → State → List ℕ → Result Css Wrong
+within_by next zero st s = wrong s Unexpected
+within_by next (suc n) st s =
+    next st.open_ s >>= λ item. taken item.0 st >>= λ taken.
+    go_on (λ st. within_by next n st item.1) taken
+
 abbrev pub read_within : ℕ → State → List ℕ → Result Css Wrong
-read_within zero st s = wrong s Unexpected
-read_within (suc n) st s =
-    item_at st.open_ s >>= λ item. taken item.0 st >>= λ taken.
-    go_on (λ st. read_within n st item.1) taken
+read_within n st s = within_by item_at n st s
 
 -- the same from the front of a text: each item but the last takes a byte
 unfoldable pub read : List ℕ → Result Css Wrong

@@ -2,6 +2,7 @@
 #![tactic(auto)]
 
 pub mod error;
+mod examples;
 pub mod laws;
 pub mod selector;
 pub mod text;
@@ -9,3 +10,4 @@ pub mod text;
 pub use crate::error::{Cause, SelectorError};
 pub use crate::selector::Selector;
 pub use crate::text::parse;
+pub use crate::text::relative::parse_relative;

@@ -2,6 +2,7 @@
 ghost use Rattle.std.specs.Prelude.{◌≡◌};
 ghost use Rattle.tl_css.specs.Item.{begin_at, combinator_at, combinator_of, first_at, leading_at, next_at, next_by, part_at, simple_at, unexpected};
 ghost use Rattle.tl_css.specs.ItemView.{item};
+ghost use Rattle.tl_css.specs.Relative.{begins_combinator, led_at};
 ghost use Rattle.tl_css.specs.SimpleView.{simple};
 ghost use Rattle.tl_css.specs.TextView.{read_as};
 
@@ -119,6 +120,28 @@ pub fn begin(role: Role, s: &[u8]) -> Result<(Item<'_>, &[u8]), Wrong>
     let (combinator, s) = leading(role, s)?;
     let (simple, rest) = simple_first(s)?;
     Ok((Item::Part(Before::Begin(combinator), s.len(), simple), rest))
+}
+
+fn begins_combinator(s: &[u8]) -> bool
+    ensures { result ≡ begins_combinator s.now }
+{
+    match s {
+        [] => false,
+        [first, ..] => combinator_of(*first).is_some(),
+    }
+}
+
+/// The same of a text of relative selectors: `:scope` before a combinator.
+pub fn begin_led(s: &[u8]) -> Result<(Item<'_>, &[u8]), Wrong>
+    ensures { read_as item result ≡ led_at s.now }
+{
+    let (_white, s) = gap(s)?;
+    if begins_combinator(s) {
+        let before = Before::Begin(Combinator::Descendant);
+        let scope = Simple::Whole(Whole::Outermost(Anchor::Scope));
+        return Ok((Item::Part(before, s.len(), scope), s));
+    }
+    begin(Role::Top, s)
 }
 
 // A simple selector after this combinator, or after white space or nothing.
