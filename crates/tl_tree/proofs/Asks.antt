@@ -1,16 +1,15 @@
 -- What is asked of rows.
-use Rattle.std.proofs.Common.{IsTrue, List, None, Option, Some, [], ap, arith, false, get_or, length, nat_lt, refl, slice_get, subst, suc, sym, true, zero, ℕ, ◌-◌, ◌<◌, ◌↔◌, ◌∙◌, ◌≡◌}
+use Rattle.std.proofs.Common.{IsTrue, List, None, Option, Some, [], ap, arith, false, get_or, inl, inr, length, nat_lt, refl, slice_get, subst, suc, sym, true, zero, ℕ, ◌-◌, ◌<◌, ◌↔◌, ◌∙◌, ◌≡◌, ◌⊎◌}
 use Rattle.std.proofs.lemmas.Bool.{lt-ltb, ltb-true}
 use Rattle.std.proofs.lemmas.Option.{none-some, same_Some, slice_get-map, slice_get_read}
 use Rattle.std.specs.Option.{option_and_then, option_copied, option_map, unwrap_or}
 use Rattle.tl_dom_spec.specs.Tags as dom
-use Rattle.tl_tree.proofs.KnownNames.{known-read}
 use Rattle.tl_tree.proofs.Seats.{all-get}
 use Rattle.tl_tree.proofs.Templates.{tag-is}
-use Rattle.tl_tree.specs.Asked.{attributes_at, attributes_of, doctype_of as asked_doctype, doctype_said, end_at, name_of, namespace_by, namespace_of, node_at}
-use Rattle.tl_tree.specs.Inner.RowView.{bytes_in, held_in, held_is_within, row_in, row_is_within}
+use Rattle.tl_tree.specs.Asked.{attributes_at, attributes_of, doctype_of as asked_doctype, doctype_said, end_at, kind_of, name_of, namespace_by, namespace_of, node_at, parent_at, text_of as said_of}
+use Rattle.tl_tree.specs.Inner.RowView.{bytes_in, held_in, held_is_within, parent_of, row_in, row_is_within}
 use Rattle.tl_tree.specs.Inner.Said.{attributes_in}
-use Rattle.tl_tree.specs.Inner.Store.{bytes_of, doctype_at, doctype_of, entries_of, sizes_of, source_of, space_of, tag_at, tag_of, text_of}
+use Rattle.tl_tree.specs.Inner.Store.{bytes_of, doctype_at, doctype_of, entries_of, is_span, sizes_of, source_of, space_of, tag_at, tag_of, text_of}
 use Rattle.tl_tree.specs.Rows.{IsInRange, Row, an_element}
 use Rattle.tl_tree.specs.TreeView.{rows_in}
 use Rattle.tl_tree.specs.declared.doctype.Doctype.{Doctype}
@@ -20,8 +19,9 @@ use Rattle.tl_tree.specs.declared.entries.Namespace.{Namespace}
 use Rattle.tl_tree.specs.declared.entries.Namespace.TheVariants.{Html, Math, Svg}
 use Rattle.tl_tree.specs.declared.entries.TagEntry.{TagEntry}
 use Rattle.tl_tree.specs.declared.row.Held.{Held}
-use Rattle.tl_tree.specs.declared.row.Held.TheVariants.{Doctype as HeldDoctype, Element}
+use Rattle.tl_tree.specs.declared.row.Held.TheVariants.{Comment, Contents, Doctype as HeldDoctype, Element, Text}
 use Rattle.tl_tree.specs.declared.row.Row as code
+use Rattle.tl_tree.specs.declared.span.Piece.{Piece}
 use Rattle.tl_tree.specs.declared.store.Store.{Store}
 use Rattle.tl_tree.specs.declared.tree.Tree.{Tree}
 use Rattle.tl_tree.specs.Sources.{node_source, place_at, source_at, start_tag_at}
@@ -65,6 +65,62 @@ tag-named s entry = refl
 row-found : (t : Tree) (number : ℕ) (items : List code.Row) (row : code.Row) → items ≡ t.rows.items → true ≡ nat_lt number (length items) → row ≡ get_or items number row → slice_get t.rows.items number ≡ Some row
 row-found t number items row same below got =
     subst (λ v. slice_get v number ≡ Some row) same (slice_get_read items (length items) number row refl (ltb-true number (length items) (sym below)) got)
+
+-- what a row that was found holds
+pub kind-found : (t : Tree) (number : ℕ) (items : List code.Row) (row : code.Row) (held : Held) → items ≡ t.rows.items → true ≡ nat_lt number (length items) → row ≡ get_or items number row → row.held ≡ held → Some (kind_of (held_in t.store (text_of t.store) held)) ≡ option_map kind_of (node_at (rows_in t) number)
+kind-found t number items row held same below got is =
+    sym (ap (option_map kind_of) (node-held t number row (row-found t number items row same below got))
+    ∙ ap (λ v. Some (kind_of (held_in t.store (text_of t.store) v))) is)
+
+-- what it says
+said-found : (t : Tree) (number : ℕ) (items : List code.Row) (row : code.Row) (held : Held) → items ≡ t.rows.items → true ≡ nat_lt number (length items) → row ≡ get_or items number row → row.held ≡ held → said_of (held_in t.store (text_of t.store) held) ≡ option_and_then said_of (node_at (rows_in t) number)
+said-found t number items row held same below got is =
+    sym (ap (option_and_then said_of) (node-held t number row (row-found t number items row same below got))
+    ∙ ap (λ v. said_of (held_in t.store (text_of t.store) v)) is)
+
+pub piece-said : (t : Tree) (number : ℕ) (items : List code.Row) (row : code.Row) (piece : Piece) (bytes : List ℕ) → items ≡ t.rows.items → true ≡ nat_lt number (length items) → row ≡ get_or items number row → (row.held ≡ Text piece) ⊎ (row.held ≡ Comment piece) → bytes ≡ bytes_in (text_of t.store) piece.span → Some bytes ≡ option_and_then said_of (node_at (rows_in t) number)
+piece-said t number items row piece bytes same below got (inl is) said =
+    ap (λ (v : List ℕ). Some v) said ∙ said-found t number items row (Text piece) same below got is
+piece-said t number items row piece bytes same below got (inr is) said =
+    ap (λ (v : List ℕ). Some v) said ∙ said-found t number items row (Comment piece) same below got is
+
+pub nothing-said : (t : Tree) (number : ℕ) (items : List code.Row) (row : code.Row) (held : Held) → items ≡ t.rows.items → true ≡ nat_lt number (length items) → row ≡ get_or items number row → row.held ≡ held → ((x : Piece) → held ≡ Text x → ⊥) → ((x : Piece) → held ≡ Comment x → ⊥) → None ≡ option_and_then said_of (node_at (rows_in t) number)
+nothing-said t number items row (Text piece) same below got is text comment = absurd (text piece refl)
+nothing-said t number items row (Comment piece) same below got is text comment = absurd (comment piece refl)
+nothing-said t number items row (Element tag) same below got is text comment = said-found t number items row (Element tag) same below got is
+nothing-said t number items row Contents same below got is text comment = said-found t number items row Contents same below got is
+nothing-said t number items row (HeldDoctype doctype source) same below got is text comment = said-found t number items row (HeldDoctype doctype source) same below got is
+
+pub piece-within : (t : Tree) (number : ℕ) (items : List code.Row) (row : code.Row) (piece : Piece) → items ≡ t.rows.items → true ≡ nat_lt number (length items) → row ≡ get_or items number row → (row.held ≡ Text piece) ⊎ (row.held ≡ Comment piece) → IsTrue (is_span t.store piece.span)
+piece-within t number items row piece same below got is =
+    let s = t.store in
+    let within = all-get (row_is_within (sizes_of s)) t.rows.items number row t.rows_within (row-found t number items row same below got) in
+    elim is as (λ _. IsTrue (is_span s piece.span)) [
+      | inl p ↦ subst (λ v. IsTrue (held_is_within (sizes_of s) v)) p within
+      | inr q ↦ subst (λ v. IsTrue (held_is_within (sizes_of s) v)) q within
+    ]
+
+-- the row itself
+row-read : (t : Tree) (number : ℕ) (items : List code.Row) (row : code.Row) → items ≡ t.rows.items → true ≡ nat_lt number (length items) → row ≡ get_or items number row → slice_get (rows_in t) number ≡ Some (row_in t.store (text_of t.store) row)
+row-read t number items row same below got =
+    let own = row_in t.store (text_of t.store) in
+    slice_get-map own t.rows.items number ∙ ap (option_map own) (row-found t number items row same below got)
+
+pub parent-none : (t : Tree) (number : ℕ) (items : List code.Row) (row : code.Row) → items ≡ t.rows.items → true ≡ nat_lt number (length items) → row ≡ get_or items number row → row.parent ≡ 0 → None ≡ parent_at (rows_in t) number
+parent-none t number items row same below got e =
+    sym (ap (option_and_then (λ (own : Row). own.parent)) (row-read t number items row same below got) ∙ ap parent_of e)
+
+parent-behind : (n : ℕ) → (n ≡ 0 → ⊥) → Some (n - 1) ≡ parent_of n
+parent-behind zero some = absurd (some refl)
+parent-behind (suc n) some = let same : suc n - 1 ≡ n = omega arith in ap (λ k. Some k) same
+
+pub parent-some : (t : Tree) (number : ℕ) (items : List code.Row) (row : code.Row) → items ≡ t.rows.items → true ≡ nat_lt number (length items) → row ≡ get_or items number row → (row.parent ≡ 0 → ⊥) → Some (row.parent - 1) ≡ parent_at (rows_in t) number
+parent-some t number items row same below got some =
+    parent-behind row.parent some ∙ sym (ap (option_and_then (λ (own : Row). own.parent)) (row-read t number items row same below got))
+
+pub end-read : (t : Tree) (number : ℕ) (items : List code.Row) (row : code.Row) → items ≡ t.rows.items → true ≡ nat_lt number (length items) → row ≡ get_or items number row → Some row.end ≡ end_at (rows_in t) number
+end-read t number items row same below got =
+    sym (ap (option_map (λ (own : Row). own.end)) (row-read t number items row same below got))
 
 -- the element of a row that was found
 element-found : (t : Tree) (number tag : ℕ) (items : List code.Row) (row : code.Row) (entry : TagEntry) → items ≡ t.rows.items → true ≡ nat_lt number (length items) → row ≡ get_or items number row → row.held ≡ Element tag → entry ≡ get_or t.store.tags.items tag entry → node_at (rows_in t) number ≡ Some (an_element (tag_of t.store entry))

@@ -1,5 +1,5 @@
 -- A row of a store, and how much there is to be written of it, by the cell that it ends with.
-use Rattle.std.proofs.Common.{IsTrue, List, Some, [], ap, arith, get_or, length, length-append, nat_le, nat_lt, refl, slice_get, subst, suc, sym, zero, ℕ, ◌+◌, ◌++◌, ◌-◌, ◌<◌, ◌∙◌, ◌≡◌, ◌≤◌, ◌∷◌}
+use Rattle.std.proofs.Common.{IsTrue, List, Some, [], add-zero, ap, arith, drop, get_or, length, length-append, nat_le, nat_lt, refl, slice_get, subst, suc, sym, zero, ℕ, ◌+◌, ◌++◌, ◌-◌, ◌<◌, ◌∙◌, ◌≡◌, ◌≤◌, ◌∷◌}
 use Rattle.std.proofs.Math.ListN.{get_or-append}
 use Rattle.std.proofs.Math.Seq.{get_or-append_seam}
 use Rattle.std.proofs.lemmas.Bool.{and_parts, leb-true}
@@ -7,7 +7,7 @@ use Rattle.std.proofs.lemmas.Option.{same_Some, slice_get_read, slice_get_within
 use Rattle.tl_dom_spec.specs.Path.{Nodes, and_element, joined, no_nodes}
 use Rattle.tl_tree.proofs.Within.{IsMore, cell-within, le-more, node-more}
 use Rattle.tl_tree.specs.Inner.Settling.{cell_weight, held_weight, node_weight, weight_of, weights_from}
-use Rattle.tl_tree.specs.Inner.Store.{is_node, is_row, node_in, node_of, nodes_of, row_in, rows_from, sizes_of, tag_at}
+use Rattle.tl_tree.specs.Inner.Store.{Grows, is_node, is_row, node_in, node_of, nodes_of, row_in, rows_from, sizes_of, tag_at}
 use Rattle.tl_tree.specs.Inner.Within.{Sizes, cell_is_within, cells_are_within, node_is_within}
 use Rattle.tl_tree.specs.declared.cell.Cell.{Cell}
 use Rattle.tl_tree.specs.declared.cell.Node.{Node}
@@ -122,6 +122,31 @@ unfolding weight_of
 weight-none s =
     ap (λ (weights : List ℕ). get_or weights 0 0) (weights-filled (0 ∷ []) s.cells.items)
     ∙ filled-keeps cell_weight 0 (0 ∷ []) s.cells.items 0 (omega arith)
+
+filled-more : {A : Type 0} (step : List A → Cell → A) (made : List A) (front rest : List Cell) → filled step made (front ++ rest) ≡ filled step (filled step made front) rest
+filled-more step made [] rest = refl
+filled-more step made (c ∷ front) rest = filled-more step (made ++ step made c ∷ []) front rest
+
+filled-long : {A : Type 0} (step : List A → Cell → A) (made : List A) (cells : List Cell) → length (filled step made cells) ≡ length made + length cells
+filled-long step made [] = sym (add-zero (length made))
+filled-long step made (c ∷ cells) =
+    let many = length-append made (step made c ∷ []) in
+    let all = filled-long step (made ++ step made c ∷ []) cells in
+    omega (arith, many, all)
+
+-- a row weighs the same in each store that begins with what its store was
+pub weight-grown : (s t : Store) → Grows s t → (n : ℕ) → n ≤ length s.cells.items → weight_of t n ≡ weight_of s n
+unfolding weight_of
+weight-grown s t g n h =
+    let first : List ℕ = 0 ∷ [] in
+    let cells = s.cells.items in
+    let rest = drop (length cells) t.cells.items in
+    let many = filled-long cell_weight first cells in
+    ap (λ (weights : List ℕ). get_or weights n 0) (weights-filled first t.cells.items)
+    ∙ (ap (λ v. get_or (filled cell_weight first v) n 0) g.cells
+    ∙ (ap (λ v. get_or v n 0) (filled-more cell_weight first cells rest)
+    ∙ (filled-keeps cell_weight 0 (filled cell_weight first cells) rest n (omega (arith, many, h))
+    ∙ ap (λ (weights : List ℕ). get_or weights n 0) (sym (weights-filled first cells)))))
 
 -- The cell of a row
 

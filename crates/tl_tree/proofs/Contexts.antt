@@ -11,6 +11,7 @@ use Rattle.tl_tree.proofs.Grown.{bytes-grown, grows_trans}
 use Rattle.tl_tree.proofs.SaidTags.{attributes-same, last-entries, span-kept}
 use Rattle.tl_tree.specs.Inner.Said.{attributes_in}
 use Rattle.tl_tree.specs.Inner.Lists.{in_list}
+use Rattle.tl_tree.specs.Inner.Standing.{standing_in}
 use Rattle.tl_tree.specs.Inner.Store.{Grows, attribute_of, bytes_of, is_span, list_in, space_of, tag_of}
 use Rattle.tl_tree.specs.declared.entries.AttributeEntry.{AttributeEntry}
 use Rattle.tl_tree.specs.declared.entries.AttributeList.TheVariants.{Tags}
@@ -64,10 +65,11 @@ tag-added t u g space span within name is attributes put first all first_is all_
 
 -- What a builder holds before the first token of a fragment
 
-pub fragment-begins : (flags : builders.Flags) (context : Context) (new rooted inside templated formed ready first : builders.Builder) → new ≡ page_start flags → rooted ≡ builders.insert_element (dom.bare_tag (codes "html")) new → inside ≡ record rooted { context = Some context.tag } →
+pub stands-in : (context : Context) (new rooted inside templated formed ready first : builders.Builder) → rooted ≡ builders.insert_element (dom.bare_tag (codes "html")) new → inside ≡ record rooted { context = Some context.tag } →
     templated ≡ record inside { templates = if dom.is_template context.tag then builders.in_template ∷ inside.templates else inside.templates } → formed ≡ record templated { form = context_form context } → ready ≡ record formed { is_quirks = context.is_quirks } →
-    first ≡ reset_insertion_mode ready → first ≡ fragment_start flags context
-fragment-begins flags context new rooted inside templated formed ready first is_new is_rooted is_inside is_templated is_formed is_ready is_first =
+    first ≡ reset_insertion_mode ready → first ≡ standing_in context new
+unfolding standing_in
+stands-in context new rooted inside templated formed ready first is_rooted is_inside is_templated is_formed is_ready is_first =
     is_first
     ∙ ap reset_insertion_mode
     (is_ready
@@ -78,4 +80,8 @@ fragment-begins flags context new rooted inside templated formed ready first is_
     ∙ ap (λ (b : builders.Builder). record b { templates = if dom.is_template context.tag then builders.in_template ∷ b.templates else b.templates })
     (is_inside
     ∙ ap (λ (b : builders.Builder). record b { context = Some context.tag })
-    (is_rooted ∙ ap (builders.insert_element (dom.bare_tag (codes "html"))) is_new)))))
+    is_rooted))))
+
+pub fragment-begins : (flags : builders.Flags) (context : Context) (new first : builders.Builder) → new ≡ page_start flags → first ≡ standing_in context new → first ≡ fragment_start flags context
+unfolding standing_in
+fragment-begins flags context new first is_new is_first = is_first ∙ ap (standing_in context) is_new

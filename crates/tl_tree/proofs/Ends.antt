@@ -12,7 +12,7 @@ use Rattle.tl_tree.proofs.Seats.{all-get, code-get, seated_rows}
 use Rattle.tl_tree.specs.Inner.Gathering.{Gathered, flushed, gathered, only_rows}
 use Rattle.tl_tree.specs.Inner.RowView.{flat_in, held_is_within, row_in, row_is_within}
 use Rattle.tl_tree.specs.Inner.Seating.{Seated}
-use Rattle.tl_tree.specs.Inner.Settling.{Turns, flats_of, pending_of, sizes_with, state_of, text_with}
+use Rattle.tl_tree.specs.Inner.Settling.{Sound, Writes, flats_of, pending_of, sizes_with, state_of, text_with}
 use Rattle.tl_tree.specs.Inner.Store.{node_in, nodes_of, row_in as cell_row, rows_from, rows_of}
 use Rattle.tl_tree.specs.Inner.Within.{Sizes}
 use Rattle.tl_tree.specs.Rows as rows
@@ -88,23 +88,23 @@ fits-long s text total (row ∷ own) [] h = absurd h
 fits-long s text total (row ∷ own) (y ∷ all) h = let n = fits-long s text total own all h.2 in omega (arith, n)
 
 -- what is written of a row of nodes, and turned round
-pub turned-fit : (s : Store) (text : List ℕ) (n : ℕ) (written : List Row) → map (flat_in s text) written ≡ flushed (gathered (nodes_of s n) nothing) → Fits (rows.row_count (before (nodes_of s n) no_trees)) (map (flat_in s text) (reverse written)) (rows.rows_of (before (nodes_of s n) no_trees))
-turned-fit s text n written e =
-    let trees = before (nodes_of s n) no_trees in
+pub turned-fit : (s o : Store) (text : List ℕ) (n : ℕ) (written : List Row) → map (flat_in s text) written ≡ flushed (gathered (nodes_of o n) nothing) → Fits (rows.row_count (before (nodes_of o n) no_trees)) (map (flat_in s text) (reverse written)) (rows.rows_of (before (nodes_of o n) no_trees))
+turned-fit s o text n written e =
+    let trees = before (nodes_of o n) no_trees in
     subst (λ v. Fits (rows.row_count trees) v (rows.rows_of trees)) (sym (map-reverse (flat_in s text) written ∙ ap reverse e))
-    (gathered_fit (nodes_of s n) (nodes-apart s n))
+    (gathered_fit (nodes_of o n) (nodes-apart o n))
 
-pub turned-ends : (s : Store) (text : List ℕ) (n : ℕ) (written turned : List Row) → turned ≡ reverse written → map (flat_in s text) written ≡ flushed (gathered (nodes_of s n) nothing) → IsTrue (list_all (λ row. nat_le row.end (length turned)) turned)
-turned-ends s text n written turned is e =
-    let trees = before (nodes_of s n) no_trees in
-    let fits = turned-fit s text n written e in
+pub turned-ends : (s o : Store) (text : List ℕ) (n : ℕ) (written turned : List Row) → turned ≡ reverse written → map (flat_in s text) written ≡ flushed (gathered (nodes_of o n) nothing) → IsTrue (list_all (λ row. nat_le row.end (length turned)) turned)
+turned-ends s o text n written turned is e =
+    let trees = before (nodes_of o n) no_trees in
+    let fits = turned-fit s o text n written e in
     let long : rows.row_count trees ≡ length (reverse written) = sym (fits-long s text (rows.row_count trees) (reverse written) (rows.rows_of trees) fits ∙ row_numbers trees) in
     subst (λ v. IsTrue (list_all (λ row. nat_le row.end (length v)) v)) (sym is)
     (subst (λ v. IsTrue (list_all (λ row. nat_le row.end v) (reverse written))) long (fits-ends s text (rows.row_count trees) (reverse written) (rows.rows_of trees) fits))
 
-pub seated-trees : (s : Store) (text : List ℕ) (n : ℕ) (written turned seated : List Row) → turned ≡ reverse written → map (flat_in s text) written ≡ flushed (gathered (nodes_of s n) nothing) → Seated turned seated → map (row_in s text) seated ≡ rows.rows_of (before (nodes_of s n) no_trees)
-seated-trees s text n written turned seated is e done =
-    seated_rows s text (reverse written) seated (before (nodes_of s n) no_trees) (turned-fit s text n written e) (subst (λ v. Seated v seated) is done)
+pub seated-trees : (s o : Store) (text : List ℕ) (n : ℕ) (written turned seated : List Row) → turned ≡ reverse written → map (flat_in s text) written ≡ flushed (gathered (nodes_of o n) nothing) → Seated turned seated → map (row_in s text) seated ≡ rows.rows_of (before (nodes_of o n) no_trees)
+seated-trees s o text n written turned seated is e done =
+    seated_rows s text (reverse written) seated (before (nodes_of o n) no_trees) (turned-fit s o text n written e) (subst (λ v. Seated v seated) is done)
 
 -- In range
 
@@ -124,37 +124,32 @@ seated-within z written turned seated is h done =
 
 -- What settling leaves
 
-final-flats : (init final : Settling) (n : ℕ) → Turns init final (only_rows (flushed (gathered (nodes_of init.store.now n) (state_of init)))) → init.pieces.items ≡ [] → init.rows.items ≡ [] → map (flat_in init.store.now (text_with init.store.now final.copied.items)) final.rows.items ≡ flushed (gathered (nodes_of init.store.now n) nothing)
-final-flats init final n t pieces written =
-    let s = init.store.now in
+abbrev IsWritten : Settling → Settling → ℕ → Type 0
+IsWritten init final n = Writes init final (only_rows (flushed (gathered (nodes_of init.store n) (state_of init))))
+
+final-flats : (init final : Settling) (n : ℕ) → IsWritten init final n → init.pieces.items ≡ [] → init.rows.items ≡ [] → map (flat_in final.store (text_with final.store final.copied.items)) final.rows.items ≡ flushed (gathered (nodes_of init.store n) nothing)
+final-flats init final n w pieces written =
+    let s = init.store in
     let nodes = nodes_of s n in
-    sym (ap (λ v. map (flat_in v.now (text_with v.now final.copied.items)) final.rows.items) t.store)
-    ∙ (ap (λ (g : Gathered). g.rows) t.state
+    ap (λ (g : Gathered). g.rows) w.state
     ∙ (ap (λ v. flushed (gathered nodes (record { pending = pending_of s init.source v; rows = flats_of init }))) pieces
-    ∙ ap (λ v. flushed (gathered nodes (record { pending = None; rows = map (flat_in s (text_with s init.copied.items)) v }))) written))
+    ∙ ap (λ v. flushed (gathered nodes (record { pending = None; rows = map (flat_in s (text_with s init.copied.items)) v }))) written)
 
-pub final-ends : (init final : Settling) (n : ℕ) (turned : List Row) → Turns init final (only_rows (flushed (gathered (nodes_of init.store.now n) (state_of init)))) → init.pieces.items ≡ [] → init.rows.items ≡ [] → turned ≡ reverse final.rows.items → IsTrue (list_all (λ row. nat_le row.end (length turned)) turned)
-final-ends init final n turned t pieces written is =
-    let s = init.store.now in
-    turned-ends s (text_with s final.copied.items) n final.rows.items turned is (final-flats init final n t pieces written)
+pub final-ends : (init final : Settling) (n : ℕ) (turned : List Row) → IsWritten init final n → init.pieces.items ≡ [] → init.rows.items ≡ [] → turned ≡ reverse final.rows.items → IsTrue (list_all (λ row. nat_le row.end (length turned)) turned)
+final-ends init final n turned w pieces written is =
+    turned-ends final.store init.store (text_with final.store final.copied.items) n final.rows.items turned is (final-flats init final n w pieces written)
 
-pub final-rows : (init final : Settling) (n : ℕ) (turned seated : List Row) → Turns init final (only_rows (flushed (gathered (nodes_of init.store.now n) (state_of init)))) → init.pieces.items ≡ [] → init.rows.items ≡ [] → turned ≡ reverse final.rows.items → Seated turned seated → map (row_in init.store.now (text_with init.store.now final.copied.items)) seated ≡ rows.rows_of (before (nodes_of init.store.now n) no_trees)
-final-rows init final n turned seated t pieces written is done =
-    let s = init.store.now in
-    seated-trees s (text_with s final.copied.items) n final.rows.items turned seated is (final-flats init final n t pieces written) done
+pub final-rows : (init final : Settling) (n : ℕ) (turned seated : List Row) → IsWritten init final n → init.pieces.items ≡ [] → init.rows.items ≡ [] → turned ≡ reverse final.rows.items → Seated turned seated → map (row_in final.store (text_with final.store final.copied.items)) seated ≡ rows.rows_of (before (nodes_of init.store n) no_trees)
+final-rows init final n turned seated w pieces written is done =
+    seated-trees final.store init.store (text_with final.store final.copied.items) n final.rows.items turned seated is (final-flats init final n w pieces written) done
 
-pub final-within : (init final : Settling) (given : Gathered) (turned seated : List Row) → Turns init final given → turned ≡ reverse final.rows.items → Seated turned seated → IsTrue (list_all (row_is_within (sizes_with init.store.now final.copied.items)) seated)
-final-within init final given turned seated t is done =
-    seated-within (sizes_with init.store.now final.copied.items) final.rows.items turned seated is
-    (subst (λ v. IsTrue (list_all (row_is_within (sizes_with v.now final.copied.items)) final.rows.items)) t.store t.sound.rows) done
+pub final-within : (final : Settling) (turned seated : List Row) → Sound final → turned ≡ reverse final.rows.items → Seated turned seated → IsTrue (list_all (row_is_within (sizes_with final.store final.copied.items)) seated)
+final-within final turned seated sound is done =
+    seated-within (sizes_with final.store final.copied.items) final.rows.items turned seated is sound.rows done
 
-pub final-short : (init final : Settling) (given : Gathered) → Turns init final given → length init.store.now.page.now + (length init.store.now.side.items + length final.copied.items) < 2 ^ 32
-final-short init final given t =
-    subst (λ v. length v.now.page.now + (length v.now.side.items + length final.copied.items) < 2 ^ 32) t.store t.sound.short
-
-pub final-few : (init final : Settling) (given : Gathered) (turned seated : List Row) → Turns init final given → turned ≡ reverse final.rows.items → Seated turned seated → length seated < 2 ^ 32
-final-few init final given turned seated t is done =
+pub final-few : (final : Settling) (turned seated : List Row) → Sound final → turned ≡ reverse final.rows.items → Seated turned seated → length seated < 2 ^ 32
+final-few final turned seated sound is done =
     let long = done.long in
     let same = ap length is ∙ length-reverse final.rows.items in
-    let few = t.sound.few in
+    let few = sound.few in
     omega (arith, long, same, few)

@@ -12,11 +12,14 @@ pub mod Templates
 pub mod Goings
 pub mod Ends
 pub mod TreeRows
+pub mod Cuts
+pub mod KeptPlaces
 pub mod Asks
 pub mod Changed
 pub mod Numbered
 pub mod Entering
 pub mod Written
+pub mod FrameParts
 pub mod Settled
 pub mod Walked
 pub mod WalkLaws
@@ -40,6 +43,8 @@ pub mod Tallies
 pub mod Skips
 pub mod Turning
 pub mod AlikeTags
+pub mod Looped
+pub mod OnErrors
 pub mod GroupTable
 pub mod SaidDoctypes
 pub mod Built

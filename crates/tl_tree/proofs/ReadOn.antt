@@ -1,5 +1,5 @@
 -- A page is read on: what is left of it stays what it was.
-use Rattle.std.proofs.Common.{Bool, List, ap, arith, nat_lt, not, refl, subst, true≢false, drop, false, length, map, sym, true, ℕ, ◌∙◌, ◌≡◌, ◌≤◌}
+use Rattle.std.proofs.Common.{Bool, Err, List, Ok, Result, ap, arith, nat_lt, not, refl, subst, true≢false, drop, false, length, map, sym, true, ℕ, ◌∙◌, ◌≡◌, ◌≤◌}
 use Rattle.std.proofs.lemmas.Bool.{lt-ltb, ltb-true}
 use Rattle.std.proofs.lemmas.List.{drop_all}
 use Rattle.tl_dom_spec.specs.Builder.{Builder, a_character, end_of_file}
@@ -23,6 +23,8 @@ use Rattle.tl_html_tokens.proofs.Told.{front_told, nothing_at_end}
 use Rattle.tl_tree.proofs.Taken.{characters-taken}
 use Rattle.tl_tree.specs.Inner.Builders.{builder_of}
 use Rattle.tl_tree.specs.Inner.Reading.{left, left_of}
+use Rattle.tl_tree.specs.declared.error.ReadError.{ReadError}
+use Rattle.tl_tree.specs.declared.error.ReadError.TheVariants as errors
 use Rattle.tl_tree.specs.declared.reader.Reader.{Reader}
 
 -- before the first token
@@ -87,3 +89,16 @@ unfolding left_of
 large-later start r same e =
     subst (λ (d : Builder). is_little (token_done d end_of_file).excess ≡ false) same
     (large-left (builder_of r.builder) r.mode r.page.now r.at e)
+
+-- the byte of a refusal
+
+abbrev place-in : ReadError → ℕ
+place-in (errors.OutOfProportion at) = at
+place-in _ = 0
+
+abbrev refused-at : {T : Type 0} → Result T ReadError → ℕ
+refused-at (Ok own) = 0
+refused-at (Err e) = place-in e
+
+pub place-of : {T : Type 0} (a b : ℕ) → ◌≡◌ {A = Result T ReadError} (Err (errors.OutOfProportion a)) (Err (errors.OutOfProportion b)) → a ≡ b
+place-of {T} a b is = ap (refused-at {T = T}) is

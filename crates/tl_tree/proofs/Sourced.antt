@@ -15,7 +15,7 @@ use Rattle.tl_dom_spec.specs.Dispatcher.{token_done, tokens_done}
 use Rattle.tl_dom_spec.specs.Driver.{builder, emitted_token}
 use Rattle.tl_dom_spec.specs.Groups.{group}
 use Rattle.tl_dom_spec.specs.HtmlForest.{HtmlForest, comment, doctype, element, has_contents, no_trees, text}
-use Rattle.tl_dom_spec.specs.HtmlTree.{Context, children_of, document_of}
+use Rattle.tl_dom_spec.specs.HtmlTree.{Context, children_of, document_of, is_little}
 use Rattle.tl_dom_spec.specs.Lawful.{EachComment, EachDoctype, EachElement, EachText, all_numbered}
 use Rattle.tl_dom_spec.specs.Tags.{Tag, html_tag}
 use Rattle.tl_html_spec.specs.Driven.{Emission, characters, taken}
@@ -36,9 +36,9 @@ use Rattle.tl_html_tokens.specs.declared.stage.TokenKind.TheVariants as kind
 use Rattle.tl_tree.proofs.Taken.{characters-taken}
 use Rattle.tl_tree.specs.Asked.{node_at}
 use Rattle.tl_tree.specs.Inner.Builders.{builder_of}
-use Rattle.tl_tree.specs.Inner.Sourced.{AreSources, IsSourced, bounds_of, places_of, reached_of, with_source}
+use Rattle.tl_tree.specs.Inner.Sourced.{AreSources, IsFurther, IsSourced, TakesNext, bounds_of, places_of, reached_of, with_source}
 use Rattle.tl_tree.specs.Rows.{Node, Row, a_comment, a_doctype, a_text, an_element, contents, contents_count, contents_rows, row_count, rows_from, rows_of}
-use Rattle.tl_tree.specs.Sources.{AreSourced, IsGapAt, IsMarkAt, IsSourceOf, IsStartTagAt, Mark, Reached, Reads, Stands, at_begin, behind_front, behind_section, fragment_begin, gap_at, gap_end, gap_start, is_mark, node_source, page_begin, past_front, past_section, place_at, source_at, source_of, start_or, start_tag_at, with_mark}
+use Rattle.tl_tree.specs.Sources.{AreSourced, IsGapAt, IsMarkAt, IsNext, IsOutOfProportionAt, IsSourceOf, IsStartTagAt, Mark, Reached, Reads, Stands, at_begin, at_end, behind_front, behind_piece, behind_section, bounds_in, fragment_begin, further, gap_at, gap_end, gap_start, is_mark, node_source, page_begin, past_front, past_section, place_at, source_at, source_of, start_or, start_tag_at, with_mark}
 use Rattle.tl_tree.specs.TreeView.{rows_in}
 use Rattle.tl_tree.specs.declared.reader.Reader.{Reader}
 use Rattle.tl_tree.specs.declared.source.Bounds.{Bounds}
@@ -53,7 +53,7 @@ same-reached a b e f g h =
     ∙ ap (λ (ms : List Mark). record b { marks = ms }) h))
 
 -- before the first token
-pub begun : (begin : Reached) (r : Reader) → r.at ≡ begin.at → state_of r.mode ≡ begin.state → builder_of r.builder ≡ begin.built → begin.marks ≡ [] → r.sources.items ≡ record { start = 0; end = begin.at } ∷ [] → IsSourced begin r
+pub begun : (begin : Reached) (r : Reader) → r.at ≡ begin.at → state_of r.mode ≡ begin.state → builder_of r.builder ≡ begin.built → begin.marks ≡ [] → bounds_in r.sources ≡ record { start = 0; end = begin.at } ∷ [] → IsSourced begin r
 begun begin r at state built none first =
     record {
       marks = [];
@@ -81,43 +81,64 @@ places-behind begin marks start front = by-mark (is_mark front.kind)
     by-mark true = ap (λ (xs : List Bounds). record { start = 0; end = begin } ∷ xs) (map-append marks own)
     by-mark false = refl
 
-pub front-sourced : (begin : Reached) (r r' : Reader) (front : Front) → IsFront r.page.now r.at r.mode front → opens_section builder (builder_of r.builder) r.page.now r.at r.mode ≡ false →
+pub front-sourced : (begin : ℕ) (marks : List Mark) (r r' : Reader) (front : Front) → IsFront r.page.now r.at r.mode front → opens_section builder (builder_of r.builder) r.page.now r.at r.mode ≡ false →
     ((emits : List Emission) → AreEmits r.mode (front_bytes r.page.now r.at front) front.kind emits → builder_of r'.builder ≡ taken builder (builder_of r.builder) emits) →
-    state_of r'.mode ≡ state_set builder (builder_of r'.builder) front → r'.at ≡ front.end → r'.page.now ≡ r.page.now → r'.sources.items ≡ with_source r.sources.items r.at front →
-    IsSourced begin r → IsSourced begin r'
-front-sourced begin r r' front f closed ok state at page sources s =
-    let own : Reached = reached_of r s.marks in
-    let marks = with_mark s.marks r.at front in
+    state_of r'.mode ≡ state_set builder (builder_of r'.builder) front → r'.at ≡ front.end → bounds_in r'.sources ≡ with_source (bounds_in r.sources) r.at front →
+    bounds_in r.sources ≡ places_of begin marks → IsFurther begin marks r r'
+front-sourced begin marks r r' front f closed ok state at sources kept =
+    let own : Reached = reached_of r marks in
+    let later = with_mark marks r.at front in
     let t : IsTold builder own.built r.page.now r.at r.mode front = front_told builder own.built r.page.now r.at r.mode front f closed in
     let built = ok t.emits t.told in
-    let is : reached_of r' marks ≡ behind_front own front t.emits = same-reached (reached_of r' marks) (behind_front own front t.emits) at (state ∙ ap (λ (d : Builder). state_set builder d front) built) built refl in
+    let is : reached_of r' later ≡ behind_front own front t.emits = same-reached (reached_of r' later) (behind_front own front t.emits) at (state ∙ ap (λ (d : Builder). state_set builder d front) built) built refl in
     let stands : Stands r.page.now own r.mode front = record { state = refl; piece = f; no_section = closed } in
     record {
-      marks = marks;
-      read = subst (λ p. Reads p begin (reached_of r' marks)) (sym page) (subst (Reads r.page.now begin) (sym is) (past_front own r.mode front t.emits s.read stands t.told));
-      sources = sources ∙ (ap (λ (xs : List Bounds). with_source xs r.at front) s.sources ∙ sym (places-behind begin.at s.marks r.at front));
+      taken = later;
+      next = subst (IsNext r.page.now own) (sym is) (past_front r.mode front t.emits stands t.told);
+      sources = sources ∙ (ap (λ (xs : List Bounds). with_source xs r.at front) kept ∙ sym (places-behind begin marks r.at front));
     }
 
 -- Behind a CDATA section
-pub section-sourced : (begin : Reached) (r r' : Reader) (b1 : Builder) (section : Section) (said : List ℕ) → IsSection r.page.now r.at section → builder.is_foreign (builder_of r.builder) ≡ true → r.mode ≡ modes.Data →
+pub section-sourced : (begin : ℕ) (marks : List Mark) (r r' : Reader) (b1 : Builder) (section : Section) (said : List ℕ) → IsSection r.page.now r.at section → builder.is_foreign (builder_of r.builder) ≡ true → r.mode ≡ modes.Data →
     b1 ≡ builder_of r.builder → said ≡ with_feeds (section_text r.page.now r.at section) → builder_of r'.builder ≡ tokens_done b1 (map a_character said) →
-    r'.mode ≡ r.mode → r'.at ≡ section.end → r'.page.now ≡ r.page.now → r'.sources.items ≡ r.sources.items →
-    IsSourced begin r → IsSourced begin r'
-section-sourced begin r r' b1 section said h foreign is-data is-b1 is-said is-b' mode at page sources s =
-    let own : Reached = reached_of r s.marks in
+    r'.mode ≡ r.mode → r'.at ≡ section.end → bounds_in r'.sources ≡ bounds_in r.sources →
+    bounds_in r.sources ≡ places_of begin marks → IsFurther begin marks r r'
+section-sourced begin marks r r' b1 section said h foreign is-data is-b1 is-said is-b' mode at sources kept =
+    let own : Reached = reached_of r marks in
     let bytes = with_feeds (section_text r.page.now r.at section) in
     let built : builder_of r'.builder ≡ taken builder own.built (characters bytes) =
     characters-taken own.built (builder_of r'.builder) (characters bytes) bytes
     (is-b' ∙ (ap (λ xs. tokens_done b1 (map a_character xs)) is-said ∙ ap (λ (d : Builder). tokens_done d (map a_character bytes)) is-b1)) refl in
-    let is : reached_of r' s.marks ≡ behind_section r.page.now own section = same-reached (reached_of r' s.marks) (behind_section r.page.now own section) at (ap state_of (mode ∙ is-data)) built refl in
+    let is : reached_of r' marks ≡ behind_section r.page.now own section = same-reached (reached_of r' marks) (behind_section r.page.now own section) at (ap state_of (mode ∙ is-data)) built refl in
     record {
-      marks = s.marks;
-      read = subst (λ p. Reads p begin (reached_of r' s.marks)) (sym page) (subst (Reads r.page.now begin) (sym is) (past_section own section s.read (ap state_of is-data) foreign h));
-      sources = sources ∙ s.sources;
+      taken = marks;
+      next = subst (IsNext r.page.now own) (sym is) (past_section section (ap state_of is-data) foreign h);
+      sources = sources ∙ kept;
     }
 
+-- Behind what stood next
+pub further-sourced : (begin : Reached) (r s : Reader) → s.page.now ≡ r.page.now → TakesNext r s → IsSourced begin r → IsSourced begin s
+further-sourced begin r s page takes own =
+    let f : IsFurther begin.at own.marks r s = takes begin.at own.marks own.sources in
+    record {
+      marks = f.taken;
+      read = subst (λ p. Reads p begin (reached_of s f.taken)) (sym page) (further (reached_of r own.marks) (reached_of s f.taken) own.read f.next);
+      sources = f.sources;
+    }
+
+-- where a tree is out of proportion
+pub out-behind : (begin : Reached) (page : List ℕ) (r s : Reader) → r.page.now ≡ page → TakesNext r s → is_little (builder_of r.builder).excess ≡ true → is_little (builder_of s.builder).excess ≡ false → IsSourced begin r → IsOutOfProportionAt page begin s.at
+out-behind begin page r s is takes little large own =
+    let f : IsFurther begin.at own.marks r s = takes begin.at own.marks own.sources in
+    subst (λ p. IsOutOfProportionAt p begin s.at) is (behind_piece (reached_of r own.marks) (reached_of s f.taken) own.read little f.next large)
+
+pub out-at-end : (begin : Reached) (page : List ℕ) (r : Reader) (built : Builder) → r.page.now ≡ page → length r.page.now ≤ r.at → built ≡ token_done (builder_of r.builder) end_of_file → is_little (builder_of r.builder).excess ≡ true → is_little built.excess ≡ false → IsSourced begin r → IsOutOfProportionAt page begin r.at
+out-at-end begin page r built is end done little large own =
+    subst (λ p. IsOutOfProportionAt p begin r.at) is
+    (at_end (reached_of r own.marks) own.read end little (ap (λ (d : Builder). is_little d.excess) (sym done) ∙ large))
+
 -- At the end of the page
-pub end-sourced : (page : List ℕ) (begin : Reached) (r : Reader) (built : Builder) (xs : List Bounds) → r.page.now ≡ page → r.sources.items ≡ xs → length r.page.now ≤ r.at → built ≡ token_done (builder_of r.builder) end_of_file → IsSourced begin r → AreSources page begin built xs
+pub end-sourced : (page : List ℕ) (begin : Reached) (r : Reader) (built : Builder) (xs : List Bounds) → r.page.now ≡ page → bounds_in r.sources ≡ xs → length r.page.now ≤ r.at → built ≡ token_done (builder_of r.builder) end_of_file → IsSourced begin r → AreSources page begin built xs
 end-sourced page begin r built xs p e end done s = record {
   last = reached_of r s.marks;
   read = subst (λ own. Reads own begin (reached_of r s.marks)) p s.read;
@@ -170,14 +191,14 @@ marks-front kind.Nothing mode bytes emits b e = ap (λ es. (taken builder b es).
 -- as many marks were taken as there are
 count-marks : (page : List ℕ) (begin r : Reached) → begin.built.marks ≡ length begin.marks → Reads page begin r → r.built.marks ≡ length r.marks
 count-marks page begin r none at_begin = none
-count-marks page begin _ none (past_front r mode front emits read stands told) =
+count-marks page begin _ none (further r _ read (past_front mode front emits stands told)) =
     let one = count-marks page begin r none read in
     marks-front front.kind mode (front_bytes page r.at front) emits r.built told ∙ by-mark (is_mark front.kind) one
   where
     by-mark : (v : Bool) → r.built.marks ≡ length r.marks → (if v then suc r.built.marks else r.built.marks) ≡ length (if v then r.marks ++ record { kind = front.kind; start = r.at; end = front.end } ∷ [] else r.marks)
     by-mark true e = let long = length-append r.marks (record { kind = front.kind; start = r.at; end = front.end } ∷ []) in omega (arith, e, long)
     by-mark false e = e
-count-marks page begin _ none (past_section r section read state foreign piece) =
+count-marks page begin _ none (further r _ read (past_section section state foreign piece)) =
     marks-characters r.built (with_feeds (section_text page r.at section)) ∙ count-marks page begin r none read
 
 -- what a list begins with
@@ -212,12 +233,12 @@ gap-within all n m k h e l = omega (arith, h, e, l)
 
 read-Holds : (page : List ℕ) (begin r : Reached) (all : List Mark) → begin.built.marks ≡ length begin.marks → Reads page begin r → Begins r.marks all → Holds (numbered all) begin.built → Holds (numbered all) r.built
 read-Holds page begin r all none at_begin b h = h
-read-Holds page begin _ all none (past_front r mode front emits read stands told) b h =
+read-Holds page begin _ all none (further r _ read (past_front mode front emits stands told)) b h =
     let tokens : List Token = map emitted_token emits in
     let later : Reached = behind_front r front emits in
     let before = read-Holds page begin r all none read (front-begins r.marks r.at front all b) h in
     let count = count-marks page begin r none read in
-    let count-later = count-marks page begin later none (past_front r mode front emits read stands told) in
+    let count-later = count-marks page begin later none (further r later read (past_front mode front emits stands told)) in
     let least = begins-less later.marks all b in
     let same : tokens_done r.built tokens ≡ later.built = sym (taken_tokens r.built emits) in
     let own = λ (e : is_mark front.kind ≡ true). subst (IsOf all front.kind) (sym count) (front-of r.marks r.at front all b e) in
@@ -225,7 +246,7 @@ read-Holds page begin _ all none (past_front r mode front emits read stands told
     (tokens-Holds (numbered all) r.built tokens (front-allowed all front.kind mode (front_bytes page r.at front) emits r.built.marks told own)
     (λ n l. gap-within all n (marks_after r.built.marks tokens) (length later.marks) l (sym (marks_are r.built tokens) ∙ (ap (λ (d : Builder). d.marks) same ∙ count-later)) least)
     before)
-read-Holds page begin _ all none (past_section r section read state foreign piece) b h =
+read-Holds page begin _ all none (further r _ read (past_section section state foreign piece)) b h =
     let bytes = with_feeds (section_text page r.at section) in
     let tokens : List Token = map emitted_token (characters bytes) in
     let before = read-Holds page begin r all none read b h in
@@ -300,7 +321,7 @@ within-list [] k h = absurd (let f : ⊥ = omega (arith, h) in f)
 within-list (m ∷ marks) zero h = (m, refl)
 within-list (m ∷ marks) (suc k) h = within-list marks k (omega (arith, h))
 
-module _ (tree : Tree) (begin : ℕ) (end : ℕ) (marks : List Mark) (kept : tree.sources.items ≡ places_of begin marks) (long : length tree.store.page.now ≡ end) where
+module _ (tree : Tree) (begin : ℕ) (end : ℕ) (marks : List Mark) (kept : bounds_in tree.sources ≡ places_of begin marks) (long : length tree.store.page.now ≡ end) where
   mark-place : (k : ℕ) (o : Option Mark) → slice_get marks k ≡ o → place_at tree (suc k) ≡ option_map (λ (m : Mark). source_of (bounds_of m)) o
   mark-place k o e = ap (λ (xs : List Bounds). option_map source_of (slice_get xs (suc k))) kept ∙ (ap (option_map source_of) (found-bounds marks k o e) ∙ twice o)
     where
@@ -349,7 +370,7 @@ module _ (tree : Tree) (begin : ℕ) (end : ℕ) (marks : List Mark) (kept : tre
   node-found (a_comment own) h = mark-found kind.Comment own.source h
   node-found (a_doctype own) h = mark-found kind.Doctype own.source h
 
-tree-sourced : (page : List ℕ) (begin : Reached) (tree : Tree) (trees : HtmlForest) (built : Builder) (sources : List Bounds) → rows_in tree ≡ rows_of trees → tree.sources.items ≡ sources → length tree.store.page.now ≡ length page → (s : AreSources page begin built sources) → Follows (numbered s.last.marks) trees → AreSourced page begin tree
+tree-sourced : (page : List ℕ) (begin : Reached) (tree : Tree) (trees : HtmlForest) (built : Builder) (sources : List Bounds) → rows_in tree ≡ rows_of trees → bounds_in tree.sources ≡ sources → length tree.store.page.now ≡ length page → (s : AreSources page begin built sources) → Follows (numbered s.last.marks) trees → AreSourced page begin tree
 tree-sourced page begin tree trees built sources is kept long s f = record {
   last = s.last;
   read = s.read;
@@ -362,13 +383,13 @@ tree-sourced page begin tree trees built sources is kept long s f = record {
 }
 
 -- a page, and a fragment
-pub page-sourced : (flags : Flags) (page : List ℕ) (tree : Tree) (built : Builder) (sources : List Bounds) → rows_in tree ≡ rows_of (document_of built).trees → tree.sources.items ≡ sources → length tree.store.page.now ≡ length page → AreSources page (page_begin flags page) built sources → AreSourced page (page_begin flags page) tree
+pub page-sourced : (flags : Flags) (page : List ℕ) (tree : Tree) (built : Builder) (sources : List Bounds) → rows_in tree ≡ rows_of (document_of built).trees → bounds_in tree.sources ≡ sources → length tree.store.page.now ≡ length page → AreSources page (page_begin flags page) built sources → AreSourced page (page_begin flags page) tree
 page-sourced flags page tree built sources is kept long s =
     let own = numbered s.last.marks in
     tree-sourced page (page_begin flags page) tree (document_of built).trees built sources is kept long s
     (document-Follows own built (subst (Holds own) (sym s.done) (ended-Holds page (page_begin flags page) s.last refl s.read (page_start-Holds own flags tt tt (omega arith)))))
 
-pub fragment-sourced : (flags : Flags) (context : Context) (page : List ℕ) (tree : Tree) (built : Builder) (sources : List Bounds) → rows_in tree ≡ rows_of (children_of built) → tree.sources.items ≡ sources → length tree.store.page.now ≡ length page → AreSources page (fragment_begin flags context) built sources → AreSourced page (fragment_begin flags context) tree
+pub fragment-sourced : (flags : Flags) (context : Context) (page : List ℕ) (tree : Tree) (built : Builder) (sources : List Bounds) → rows_in tree ≡ rows_of (children_of built) → bounds_in tree.sources ≡ sources → length tree.store.page.now ≡ length page → AreSources page (fragment_begin flags context) built sources → AreSourced page (fragment_begin flags context) tree
 fragment-sourced flags context page tree built sources is kept long s =
     let own = numbered s.last.marks in
     tree-sourced page (fragment_begin flags context) tree (children_of built) built sources is kept long s

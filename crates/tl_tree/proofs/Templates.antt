@@ -23,24 +23,15 @@ or-none : (b : Bool) → (b || false) ≡ b
 or-none true = refl
 or-none false = refl
 
-html-contents : (s : Store) (entry : TagEntry) (space : Namespace) → entry.space ≡ space → space ≡ Html → has_contents (tag_of s entry) ≡ bytes_eq (bytes_of s entry.name) (codes "template")
+pub html-contents : (s : Store) (entry : TagEntry) (space : Namespace) → entry.space ≡ space → space ≡ Html → has_contents (tag_of s entry) ≡ bytes_eq (bytes_of s entry.name) (codes "template")
 unfolding tag_of
 html-contents s entry Html e is = subst (λ v. has_contents (record (tag_of s entry) { space = space_of v }) ≡ bytes_eq (bytes_of s entry.name) (codes "template")) (sym e) (or-none (bytes_eq (bytes_of s entry.name) (codes "template")))
 html-contents s entry Math e is = absurd (let f : ⊥ = cc in f)
 html-contents s entry Svg e is = absurd (let f : ⊥ = cc in f)
 
-pub html-template : (s : Store) (n : ℕ) (entry : TagEntry) (r : Bool) (bytes word : List ℕ) → IsTrue (is_tag_number s n) → entry ≡ get_or s.tags.items n entry → entry.space ≡ Html → bytes ≡ bytes_of s entry.name → word ≡ codes "template" → r ≡ bytes_eq bytes word → r ≡ has_contents (tag_at s n)
-html-template s n entry r bytes word h e space is template eq =
-    eq ∙ (ap (λ v. bytes_eq v word) is
-    ∙ (ap (bytes_eq (bytes_of s entry.name)) template
-    ∙ (sym (html-contents s entry Html space refl) ∙ ap has_contents (sym (tag-is s n entry h e)))))
-
 -- elements of other namespaces have none
-other-contents : (s : Store) (entry : TagEntry) (space : Namespace) → entry.space ≡ space → (entry.space ≡ Html → ⊥) → false ≡ has_contents (tag_of s entry)
+pub other-contents : (s : Store) (entry : TagEntry) (space : Namespace) → entry.space ≡ space → (entry.space ≡ Html → ⊥) → false ≡ has_contents (tag_of s entry)
 unfolding tag_of
 other-contents s entry Html e other = absurd (other e)
 other-contents s entry Math e other = subst (λ v. false ≡ has_contents (record (tag_of s entry) { space = space_of v })) (sym e) refl
 other-contents s entry Svg e other = subst (λ v. false ≡ has_contents (record (tag_of s entry) { space = space_of v })) (sym e) refl
-
-pub other-template : (s : Store) (n : ℕ) (entry : TagEntry) → IsTrue (is_tag_number s n) → entry ≡ get_or s.tags.items n entry → (entry.space ≡ Html → ⊥) → false ≡ has_contents (tag_at s n)
-other-template s n entry h e other = other-contents s entry entry.space refl other ∙ ap has_contents (sym (tag-is s n entry h e))

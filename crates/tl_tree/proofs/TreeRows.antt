@@ -4,7 +4,7 @@ use Rattle.std.proofs.lemmas.Bool.{and_from, le-leb, lt-ltb, ltb-true}
 use Rattle.std.proofs.lemmas.Option.{none-some}
 use Rattle.std.specs.List.{list_all}
 use Rattle.std.specs.Option.{option_map}
-use Rattle.tl_dom_spec.specs.HtmlForest.{before, no_trees}
+use Rattle.tl_dom_spec.specs.HtmlForest.{HtmlForest}
 use Rattle.tl_dom_spec.specs.Tags as dom
 use Rattle.tl_html_spec.specs.Doctypes as doctypes
 use Rattle.tl_dom_spec.specs.Marks.{marked}
@@ -16,7 +16,7 @@ use Rattle.tl_tree.proofs.Within.{lt-more}
 use Rattle.tl_tree.specs.Inner.Lists.{in_list}
 use Rattle.tl_tree.specs.Inner.RowView.{are_in_order, bytes_in, held_in, held_is_within, parent_of, row_in, row_is_within}
 use Rattle.tl_tree.specs.Inner.Settling.{AreRowsOf, sizes_with, text_with}
-use Rattle.tl_tree.specs.Inner.Store.{Grows, attribute_space_of, bytes_of, doctype_at, doctype_of, nodes_of, sizes_of, source_of, space_of, tag_at, tag_of, text_of}
+use Rattle.tl_tree.specs.Inner.Store.{Grows, IsAlike, attribute_space_of, bytes_of, doctype_at, doctype_of, sizes_of, source_of, space_of, tag_at, tag_of, text_of}
 use Rattle.tl_tree.specs.Inner.Within.{Sizes, span_is_within}
 use Rattle.tl_tree.specs.Rows as rows
 use Rattle.tl_tree.specs.declared.attribute_lists.AttributeLists.{AttributeLists}
@@ -59,25 +59,17 @@ doctype-parts : (s : Store) (n : ℕ) → doctype_at s n ≡ doctype-part (text_
 unfolding doctype_at doctype_of bytes_of
 doctype-parts s n = refl
 
--- a store that is another one but for its cells
-pub record IsAlike (t u : Store) : Type 0 where
-  pub page : u.page.now ≡ t.page.now
-  pub side : u.side.items ≡ t.side.items
-  pub attributes : u.attributes ≡ t.attributes
-  pub tags : u.tags.items ≡ t.tags.items
-  pub doctypes : u.doctypes.items ≡ t.doctypes.items
-
-text-alike : (t u : Store) → IsAlike t u → text_of u ≡ text_of t
+pub text-alike : (t u : Store) → IsAlike t u → text_of u ≡ text_of t
 text-alike t u a = ap (λ v. v ++ u.side.items) a.page ∙ ap (λ v. t.page.now ++ v) a.side
 
-tag-alike : (t u : Store) → IsAlike t u → (n : ℕ) → tag_at u n ≡ tag_at t n
+pub tag-alike : (t u : Store) → IsAlike t u → (n : ℕ) → tag_at u n ≡ tag_at t n
 tag-alike t u a n =
     tag-parts u n
     ∙ (ap (λ v. tag-part v u.attributes u.tags.items n) (text-alike t u a)
     ∙ (ap (λ v. tag-part (text_of t) v u.tags.items n) a.attributes
     ∙ (ap (λ v. tag-part (text_of t) t.attributes v n) a.tags ∙ sym (tag-parts t n))))
 
-doctype-alike : (t u : Store) → IsAlike t u → (n : ℕ) → doctype_at u n ≡ doctype_at t n
+pub doctype-alike : (t u : Store) → IsAlike t u → (n : ℕ) → doctype_at u n ≡ doctype_at t n
 doctype-alike t u a n =
     doctype-parts u n
     ∙ (ap (λ v. doctype-part v u.doctypes.items n) (text-alike t u a)
@@ -103,8 +95,9 @@ tree-held s t u copied g side a (Doctype n source) h =
 row-with : (node other : rows.Node) (row : Row) → node ≡ other → (let r : rows.Row = record { node = node; parent = parent_of row.parent; end = row.end } in r) ≡ (let r : rows.Row = record { node = other; parent = parent_of row.parent; end = row.end } in r)
 row-with node other row e = ap (λ v. let r : rows.Row = record { node = v; parent = parent_of row.parent; end = row.end } in r) e
 
-pub tree-rows : (s t u : Store) (n : ℕ) (made : Settled) → AreRowsOf s n made → Grows s t → t.side.items ≡ s.side.items ++ made.copied.items → IsAlike t u → map (row_in u (text_of u)) made.rows.items ≡ rows.rows_of (before (nodes_of s n) no_trees)
-tree-rows s t u n made are g side a =
+pub tree-rows : (t u : Store) (trees : HtmlForest) (made : Settled) → AreRowsOf trees made → Grows made.store t → t.side.items ≡ made.store.side.items ++ made.copied.items → IsAlike t u → map (row_in u (text_of u)) made.rows.items ≡ rows.rows_of trees
+tree-rows t u trees made are g side a =
+    let s = made.store in
     map-same (row_is_within (sizes_with s made.copied.items)) (row_in u (text_of u)) (row_in s (text_with s made.copied.items))
     (λ row h. row-with (held_in u (text_of u) row.held) (held_in s (text_with s made.copied.items) row.held) row (tree-held s t u made.copied.items g side a row.held h))
     made.rows.items are.within
@@ -124,8 +117,9 @@ held-within z w page side tags entries (Comment own) h =
     subst (λ v. IsTrue (span_is_within v w.side own.span)) (sym page) (subst (λ v. IsTrue (span_is_within z.page v own.span)) (sym side) h)
 held-within z w page side tags entries (Doctype n source) h = lt-more n z.doctypes w.doctypes h entries
 
-pub tree-within : (s t : Store) (n : ℕ) (made : Settled) → AreRowsOf s n made → Grows s t → t.side.items ≡ s.side.items ++ made.copied.items → IsTrue (list_all (row_is_within (sizes_of t)) made.rows.items)
-tree-within s t n made are g side =
+pub tree-within : (t : Store) (trees : HtmlForest) (made : Settled) → AreRowsOf trees made → Grows made.store t → t.side.items ≡ made.store.side.items ++ made.copied.items → IsTrue (list_all (row_is_within (sizes_of t)) made.rows.items)
+tree-within t trees made are g side =
+    let s = made.store in
     all-weaker (row_is_within (sizes_with s made.copied.items)) (row_is_within (sizes_of t))
     (λ row h. held-within (sizes_with s made.copied.items) (sizes_of t) (ap length g.page) (ap length side ∙ length-append s.side.items made.copied.items) (longer s.tags.items t.tags.items g.tags) (longer s.doctypes.items t.doctypes.items g.doctypes) row.held h)
     made.rows.items are.within
@@ -149,9 +143,8 @@ each-order s text total n (row ∷ own) h =
 no-parent : ComesBefore None 0
 no-parent p e = absurd (none-some p e)
 
-pub tree-order : (s : Store) (n : ℕ) (made : Settled) → AreRowsOf s n made → IsTrue (are_in_order 0 made.rows.items)
-tree-order s n made are =
-    let trees = before (nodes_of s n) no_trees in
+pub tree-order : (trees : HtmlForest) (made : Settled) → AreRowsOf trees made → IsTrue (are_in_order 0 made.rows.items)
+tree-order trees made are =
     let total = 0 + rows.row_count trees in
-    each-order s (text_with s made.copied.items) total 0 made.rows.items
+    each-order made.store (text_with made.store made.copied.items) total 0 made.rows.items
     (subst (λ v. EachRow (Within None 0 total) 0 v) (sym are.rows) (rows-within 0 None trees no-parent))

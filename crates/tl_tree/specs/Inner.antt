@@ -45,3 +45,4 @@ pub mod Merging
 pub mod AtRest
 pub mod Errors
 pub mod Parted
+pub mod Standing

@@ -4,5 +4,6 @@ pub mod TreeView
 pub mod Asked
 pub mod Below
 pub mod Contexts
+pub mod Places
 pub mod Sources
 pub mod Examples

@@ -2,10 +2,11 @@
 -- the page is taken from where the one before it ends, in the state that the tokenizer goes on in.
 -- Marks are all tokens but characters and the end of the page.
 use Rattle.std.specs.Option.{option_and_then, option_map, unwrap_or}
-use Rattle.std.specs.Prelude.{Bool, List, None, Option, Some, [], false, if◌then◌else◌, length, slice_get, suc, true, zero, ℕ, ◌++◌, ◌∷◌, ◌≡◌, ◌≤◌}
-use Rattle.tl_dom_spec.specs.Builder.{Builder, Flags}
+use Rattle.std.specs.Prelude.{Bool, List, None, Option, Some, [], false, if◌then◌else◌, length, map, slice_get, suc, true, zero, ℕ, ◌++◌, ◌∷◌, ◌≡◌, ◌≤◌}
+use Rattle.tl_dom_spec.specs.Builder.{Builder, Flags, end_of_file}
+use Rattle.tl_dom_spec.specs.Dispatcher.{token_done}
 use Rattle.tl_dom_spec.specs.Driver.{builder}
-use Rattle.tl_dom_spec.specs.HtmlTree.{Context, context_state, fragment_start, page_start}
+use Rattle.tl_dom_spec.specs.HtmlTree.{Context, context_state, fragment_start, is_little, page_start}
 use Rattle.tl_html_spec.specs.Driven.{Emission, characters, taken}
 use Rattle.tl_html_spec.specs.HtmlTokenizer.{State, data_state, with_feeds}
 use Rattle.tl_html_tokens.specs.Driving.{opens_section, state_set}
@@ -20,8 +21,10 @@ use Rattle.tl_html_tokens.specs.declared.section.Section.{Section}
 use Rattle.tl_html_tokens.specs.declared.stage.TokenKind.{TokenKind}
 use Rattle.tl_html_tokens.specs.declared.stage.TokenKind.TheVariants as kind
 use Rattle.tl_tree.specs.Asked.{node_at}
+use Rattle.tl_tree.specs.Places.{bounds_at}
 use Rattle.tl_tree.specs.Rows.{Node, a_comment, a_doctype, a_text, an_element, contents}
 use Rattle.tl_tree.specs.TreeView.{rows_in}
+use Rattle.tl_tree.specs.declared.places.Places.{Places}
 use Rattle.tl_tree.specs.declared.source.Bounds.{Bounds}
 use Rattle.tl_tree.specs.declared.source.Source.{Source}
 use Rattle.tl_tree.specs.declared.tree.Tree.{Tree}
@@ -96,25 +99,40 @@ behind_section page r section = record {
   marks = r.marks;
 }
 
+-- what stands next is taken: a token, a text or a CDATA section
+pub data IsNext (page : List ℕ) (r : Reached) : Reached → Type 0 where
+  past_front : (mode : Mode) (front : Front) (emits : List Emission) →
+      Stands page r mode front →
+      AreEmits mode (front_bytes page r.at front) front.kind emits →
+      IsNext page r (behind_front r front emits)
+  past_section : (section : Section) →
+      r.state ≡ data_state → builder.is_foreign r.built ≡ true → IsSection page r.at section →
+      IsNext page r (behind_section page r section)
+
 -- how far a page is read from its begin on, one piece after the other
 pub data Reads (page : List ℕ) (begin : Reached) : Reached → Type 0 where
   at_begin : Reads page begin begin
-  past_front : (r : Reached) (mode : Mode) (front : Front) (emits : List Emission) →
-      Reads page begin r → Stands page r mode front →
-      AreEmits mode (front_bytes page r.at front) front.kind emits →
-      Reads page begin (behind_front r front emits)
-  past_section : (r : Reached) (section : Section) →
-      Reads page begin r → r.state ≡ data_state → builder.is_foreign r.built ≡ true →
-      IsSection page r.at section →
-      Reads page begin (behind_section page r section)
+  further : (r s : Reached) → Reads page begin r → IsNext page r s → Reads page begin s
+
+-- how far it is read where it is first out of proportion: behind a piece, or at its end
+pub data IsOutOfProportionAt (page : List ℕ) (begin : Reached) : ℕ → Type 0 where
+  behind_piece : (r s : Reached) → Reads page begin r → is_little r.built.excess ≡ true →
+      IsNext page r s → is_little s.built.excess ≡ false → IsOutOfProportionAt page begin s.at
+  at_end : (r : Reached) → Reads page begin r → length page ≤ r.at →
+      is_little r.built.excess ≡ true →
+      is_little (token_done r.built end_of_file).excess ≡ false →
+      IsOutOfProportionAt page begin r.at
 
 -- What a tree answers, by the places that it keeps: where the page begins, and its marks
+
+abbrev pub bounds_in : Places → List Bounds
+bounds_in places = map (bounds_at places.long.items) places.short.items
 
 abbrev pub source_of : Bounds → Source
 source_of bounds = record { start = bounds.start; end = bounds.end }
 
 abbrev pub place_at : Tree → ℕ → Option Source
-place_at tree index = option_map source_of (slice_get tree.sources.items index)
+place_at tree index = option_map source_of (slice_get (bounds_in tree.sources) index)
 
 -- where the next mark begins, or the end of the page
 abbrev pub start_or : ℕ → Option Source → ℕ

@@ -95,15 +95,11 @@ impl<'a> Builder<'a> {
         match token {
             Token::Character(byte) => {
                 if byte.is_ascii_whitespace() {
-                    self.insert_character(byte)?;
-                    return Ok(Outcome::Done);
+                    return self.character_inserted(byte);
                 }
                 self.html_body_implied()
             }
-            Token::Comment => {
-                self.insert_comment()?;
-                Ok(Outcome::Done)
-            }
+            Token::Comment => self.comment_inserted(),
             Token::Doctype => Ok(Outcome::Done),
             Token::Start { group, .. } => self.after_head_start(group),
             Token::End { group, .. } => self.after_head_end(group),

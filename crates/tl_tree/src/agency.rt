@@ -35,8 +35,8 @@ impl<'a> Builder<'a> {
         self.close_except_for(test, test)
     }
 
-    // Elements are popped until the one of a number was popped.
-    fn pop_number(&mut self, number: u32) -> Result<(), GrowError>
+    /// Elements are popped until the one of a number was popped.
+    pub(crate) fn pop_number(&mut self, number: u32) -> Result<(), GrowError>
         ensures ok { OnOk result (builder_of self.new
             ≡ record (builder_of self.old) {
               path = popped_through (has_number number) (builder_of self.old).path;

@@ -74,6 +74,7 @@ impl<'p> Tree<'p> {
     }
 
     /// The value of the attribute of an element that has this key and no namespace.
+    #[inline(always)]
     pub fn value(&self, number: usize, key: &[u8]) -> Option<&[u8]>
         ensures { option_copied result
             ≡ value_of key.now (attributes_at (rows_in self.now) number) }

@@ -65,10 +65,7 @@ impl<'a> Builder<'a> {
                 }
                 self.head_implied()
             }
-            Token::Comment => {
-                self.insert_comment()?;
-                Ok(Outcome::Done)
-            }
+            Token::Comment => self.comment_inserted(),
             Token::Doctype => Ok(Outcome::Done),
             Token::Start { group, .. } => self.before_head_start(group),
             Token::End { group, .. } => {

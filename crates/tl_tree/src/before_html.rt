@@ -60,10 +60,7 @@ impl<'a> Builder<'a> {
                 }
                 self.html_implied()
             }
-            Token::Comment => {
-                self.insert_comment()?;
-                Ok(Outcome::Done)
-            }
+            Token::Comment => self.comment_inserted(),
             Token::Doctype => Ok(Outcome::Done),
             Token::Start { group, .. } => self.before_html_start(group),
             Token::End { group, .. } => {

@@ -272,12 +272,14 @@ impl<'a> Builder<'a> {
     }
 
     /// Whether the current node passes a test.
+    #[inline(always)]
     pub(crate) fn is_current(&self, test: TagTest<'_>) -> bool
         ensures { result ≡ tag_test_of test.entry (current_tag (builder_of self.now)) }
     {
         test.passes(&self.path.store, self.path.top().tag)
     }
 
+    #[inline(always)]
     pub(crate) fn has_template(&self) -> bool
         ensures { result ≡ has_template (builder_of self.now) }
     {
@@ -285,24 +287,28 @@ impl<'a> Builder<'a> {
     }
 
     /// Whether an element that passes a test is in scope.
+    #[inline(always)]
     pub(crate) fn has_in_scope(&self, test: TagTest<'_>) -> bool
         ensures { result ≡ has_in_scope (tag_test_of test.entry) (builder_of self.now) }
     {
         self.path.has_within(test, TagTest::Scope)
     }
 
+    #[inline(always)]
     pub(crate) fn has_in_button_scope(&self, test: TagTest<'_>) -> bool
         ensures { result ≡ has_in_button_scope (tag_test_of test.entry) (builder_of self.now) }
     {
         self.path.has_within(test, TagTest::ScopeOr(Names::Button))
     }
 
+    #[inline(always)]
     pub(crate) fn has_in_list_item_scope(&self, test: TagTest<'_>) -> bool
         ensures { result ≡ has_in_list_item_scope (tag_test_of test.entry) (builder_of self.now) }
     {
         self.path.has_within(test, TagTest::ScopeOr(Names::Lists))
     }
 
+    #[inline(always)]
     pub(crate) fn has_in_table_scope(&self, test: TagTest<'_>) -> bool
         ensures { result ≡ has_in_table_scope (tag_test_of test.entry) (builder_of self.now) }
     {
@@ -319,6 +325,7 @@ impl<'a> Builder<'a> {
     }
 
     /// Pops elements until one that passes a test was popped.
+    #[inline(always)]
     pub(crate) fn pop_until(&mut self, test: TagTest<'_>) -> Result<(), GrowError>
         ensures ok { OnOk result
             (builder_of self.new ≡ pop_until (tag_test_of test.entry) (builder_of self.old)) }
@@ -328,6 +335,7 @@ impl<'a> Builder<'a> {
     }
 
     /// Pops elements until the current node passes a test.
+    #[inline(always)]
     pub(crate) fn clear_stack_back_to(&mut self, test: TagTest<'_>) -> Result<(), GrowError>
         ensures ok { OnOk result (builder_of self.new
             ≡ clear_stack_back_to (tag_test_of test.entry) (builder_of self.old)) }
@@ -337,6 +345,7 @@ impl<'a> Builder<'a> {
     }
 
     /// Generates implied end tags, but for elements that pass a test.
+    #[inline(always)]
     pub(crate) fn generate_implied_end_tags_except_for(
         &mut self,
         but: TagTest<'_>,
@@ -349,6 +358,7 @@ impl<'a> Builder<'a> {
         self.path.close_implied(but)
     }
 
+    #[inline(always)]
     pub(crate) fn generate_implied_end_tags(&mut self) -> Result<(), GrowError>
         ensures ok { OnOk result
             (builder_of self.new ≡ generate_implied_end_tags (builder_of self.old)) }
@@ -359,6 +369,7 @@ impl<'a> Builder<'a> {
 
     /// Generates implied end tags, but for some elements, and pops until one that passes a test was
     /// popped.
+    #[inline(always)]
     pub(crate) fn close_except_for(
         &mut self,
         but: TagTest<'_>,
@@ -433,6 +444,7 @@ impl<'a> Builder<'a> {
     }
 
     // An element of a tag of the store is inserted at a place.
+    #[inline(always)]
     fn insert_tag_at(&mut self, place: Place, tag: u32) -> Result<(), GrowError>
         requires { tag < length self.old.path.store.tags.items }
         ensures ok { OnOk result (builder_of self.new
@@ -455,6 +467,7 @@ impl<'a> Builder<'a> {
     }
 
     /// Inserts an element for the token at a place.
+    #[inline(always)]
     pub(crate) fn insert_element_at(&mut self, place: Place) -> Result<(), GrowError>
         ensures ok { OnOk result (builder_of self.new
             ≡ insert_element_at (place_of place) (token_of self.old).tag (builder_of self.old)) }
@@ -465,6 +478,7 @@ impl<'a> Builder<'a> {
     }
 
     /// Inserts an element for the token.
+    #[inline(never)]
     pub(crate) fn insert_element(&mut self) -> Result<(), GrowError>
         ensures ok { OnOk result
             (builder_of self.new ≡ insert_element (token_of self.old).tag (builder_of self.old)) }

@@ -27,6 +27,7 @@ impl<'a> Builder<'a> {
     }
 
     /// Closes an element that passes a test, where one is in scope.
+    #[inline(always)]
     pub(crate) fn close_in_scope(
         &mut self,
         but: TagTest<'_>,

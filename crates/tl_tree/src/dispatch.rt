@@ -90,8 +90,8 @@ impl<'a> Builder<'a> {
     }
 
     // By the rules of an insertion mode.
-    #[inline(always)]
-    fn mode_step(&mut self, mode: Mode, token: Token<'_>) -> Result<Outcome, GrowError>
+    #[inline(never)]
+    fn any_step(&mut self, mode: Mode, token: Token<'_>) -> Result<Outcome, GrowError>
         ensures ok { IfOk result (λ outcome. outcome_of outcome (builder_of self.new)
             ≡ mode_step (mode_of mode) (builder_of self.old)
             (token_view token.entry (token_of self.old))) }
@@ -119,6 +119,20 @@ impl<'a> Builder<'a> {
             Mode::AfterFrameset => self.after_frameset(token),
             Mode::AfterAfterBody => self.after_after_body(token),
             Mode::AfterAfterFrameset => self.after_after_frameset(token),
+        }
+    }
+
+    // By the rules of an insertion mode. Those of "in body" are known where this is called.
+    #[inline(always)]
+    fn mode_step(&mut self, mode: Mode, token: Token<'_>) -> Result<Outcome, GrowError>
+        ensures ok { IfOk result (λ outcome. outcome_of outcome (builder_of self.new)
+            ≡ mode_step (mode_of mode) (builder_of self.old)
+            (token_view token.entry (token_of self.old))) }
+        ensures token { token_of self.new ≡ token_of self.old }
+    {
+        match mode {
+            Mode::InBody => self.in_body(token),
+            _ => self.any_step(mode, token),
         }
     }
 

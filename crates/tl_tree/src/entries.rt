@@ -77,16 +77,19 @@ pub(crate) struct AttributeEntry {
 #[derive(Clone, Copy)]
 pub(crate) struct TagEntry {
     pub(crate) space: Namespace,
-    pub(crate) name: Span,
+    pub(crate) list: AttributeList,
     pub(crate) known: ElementName,
+    pub(crate) name: Span,
     /// The number of its name, in any case.
     pub(crate) number: u32,
-    pub(crate) list: AttributeList,
     pub(crate) first_attribute: u32,
     pub(crate) attribute_count: u32,
     /// One more than the number of its start tag among those of the page: 0 where there is none.
     pub(crate) start: u32,
 }
+
+// What takes a byte stands side by side.
+const _: () = prove!(size_of::<TagEntry>() == 28);
 
 #[derive(Clone, Copy)]
 pub(crate) struct DoctypeEntry {

@@ -6,14 +6,16 @@ ghost use Rattle.tl_tree.specs.Inner.Builders.{builder_of};
 ghost use Rattle.tl_tree.specs.Inner.Frames.{path_of, test_of};
 ghost use Rattle.tl_tree.specs.Inner.Store.{is_row, nodes_of};
 ghost use Rattle.tl_tree.specs.Rows.{rows_of};
+ghost use Rattle.tl_tree.specs.Sources.{bounds_in};
 ghost use Rattle.tl_tree.specs.TreeView.{rows_in};
 
 use crate::builder::Builder;
 use crate::cell::Node;
 use crate::error::GrowError;
 use crate::path::FramePath;
+use crate::places::Places;
 use crate::settle::tree_of;
-use crate::source::Bounds;
+use crate::store::Store;
 use crate::test::Test;
 use crate::tree::Tree;
 use std::alloc::Global;
@@ -32,6 +34,20 @@ impl<'a> FramePath<'a> {
             return Ok(frame.children);
         }
         self.add(frame.children, Node::Joined(frame.waiting))
+    }
+
+    // The store. All frames are gone.
+    fn into_store(self) -> Store<'a>
+        ensures { result ≡ self.entry.store }
+    {
+        let FramePath {
+            store,
+            frames: _,
+            next: _,
+            scopes: _,
+            placed: _,
+        } = self;
+        store
     }
 
     // What stands in the innermost frame that passes a test, or in the document, as a row. All
@@ -54,13 +70,13 @@ impl<'a> Builder<'a> {
     pub(crate) fn into_tree(
         self,
         alloc: Global,
-        sources: Vec<Bounds>,
+        sources: Places,
         test: Test<'_>,
     ) -> Result<Tree<'a>, GrowError>
         ensures tree { IfOk result (λ tree. rows_in tree
             ≡ rows_of
             (trees_in (top (popped_to (test_of test.entry) (builder_of self.entry).path)))) }
-        ensures sources { IfOk result (λ tree. tree.sources.items ≡ sources.items) }
+        ensures sources { IfOk result (λ tree. bounds_in tree.sources ≡ bounds_in sources) }
         ensures page { IfOk result
             (λ tree. tree.store.page.now ≡ self.entry.path.store.page.now) }
         ensures quirks { IfOk result
@@ -69,6 +85,6 @@ impl<'a> Builder<'a> {
         let is_quirks = self.is_quirks;
         let mut path = self.path;
         let row = path.content_of(test)?;
-        tree_of(alloc, path.store, row, sources, is_quirks)
+        tree_of(alloc, path.into_store(), row, sources, is_quirks)
     }
 }

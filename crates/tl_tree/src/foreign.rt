@@ -1,8 +1,7 @@
 //! Foreign content (13.2.6.5).
 ghost use Rattle.std.specs.Prelude.{IfOk, OnOk, ◌≡◌};
-ghost use Rattle.tl_dom_spec.specs.Builder.{with_path};
 ghost use Rattle.tl_dom_spec.specs.Dispatcher.{broken_out, breaks_out, foreign_character, foreign_end, foreign_end_at, foreign_start, foreign_step, found_in};
-ghost use Rattle.tl_dom_spec.specs.Path.{elements, has_number, popped_through};
+ghost use Rattle.tl_dom_spec.specs.Path.{elements};
 ghost use Rattle.tl_tree.specs.Inner.Builders.{builder_of, outcome_of, token_of, token_view};
 ghost use Rattle.tl_tree.specs.Inner.GroupNames.{group_view as group_of};
 ghost use Rattle.tl_tree.specs.Inner.Found.{found_of};
@@ -60,16 +59,6 @@ impl<'a> Builder<'a> {
         Ok(Outcome::Done)
     }
 
-    // Elements are popped until the one of a number was popped.
-    fn pop_through_number(&mut self, number: u32) -> Result<(), GrowError>
-        ensures ok { OnOk result (builder_of self.new
-            ≡ with_path (builder_of self.old)
-            (popped_through (has_number number) (builder_of self.old).path)) }
-        ensures token { token_of self.new ≡ token_of self.old }
-    {
-        self.path.pop_through(Test::Number(number))
-    }
-
     // An end tag, by what its name finds on the stack.
     fn foreign_end_at(
         &mut self,
@@ -83,7 +72,7 @@ impl<'a> Builder<'a> {
     {
         match found {
             Found::Frame(number) => {
-                self.pop_through_number(number)?;
+                self.pop_number(number)?;
                 Ok(Outcome::Done)
             }
             Found::ByMode => self.html_step(Token::End { group, name }),

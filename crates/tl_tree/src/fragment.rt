@@ -5,6 +5,7 @@ ghost use Rattle.tl_dom_spec.specs.HtmlTree.{fragment_start};
 ghost use Rattle.tl_dom_spec.specs.Tags.{bare_tag};
 ghost use Rattle.tl_tree.specs.Contexts.{context_of};
 ghost use Rattle.tl_tree.specs.Inner.Builders.{builder_of, flags_of, token_of};
+ghost use Rattle.tl_tree.specs.Inner.Standing.{standing_in};
 
 use crate::builder::{Builder, Flags};
 use crate::context::Context;
@@ -38,6 +39,20 @@ impl<'a> Builder<'a> {
         Ok(())
     }
 
+    // What a fragment has before its first token, where the builder has read nothing yet.
+    fn stand_in(&mut self, context: Context<'_>) -> Result<(), GrowError>
+        ensures ok { OnOk result (builder_of self.new
+            ≡ standing_in (context_of context.entry) (builder_of self.old)) }
+        ensures page { (token_of self.new).page ≡ (token_of self.old).page }
+    {
+        self.insert_root()?;
+        self.read_in(context)?;
+        self.enter_template(context.is_template())?;
+        self.set_form(context.is_in_form.then_some(0));
+        self.set_quirks(context.is_quirks);
+        self.reset_insertion_mode()
+    }
+
     /// Before the first token of a fragment.
     pub(crate) fn for_fragment(
         alloc: Global,
@@ -50,12 +65,7 @@ impl<'a> Builder<'a> {
         ensures page { IfOk result (λ builder. (token_of builder).page ≡ text.now) }
     {
         let mut builder = Builder::new(alloc, text, flags)?;
-        builder.insert_root()?;
-        builder.read_in(context)?;
-        builder.enter_template(context.is_template())?;
-        builder.set_form(context.is_in_form.then_some(0));
-        builder.set_quirks(context.is_quirks);
-        builder.reset_insertion_mode()?;
+        builder.stand_in(context)?;
         Ok(builder)
     }
 }

@@ -1,7 +1,8 @@
 //! "in body" (13.2.6.4.7).
 ghost use Rattle.std.specs.Prelude.{IfOk, OnOk, ◌≡◌};
 ghost use Rattle.tl_dom_spec.specs.Body.{body_character, file_ended, in_body_step};
-ghost use Rattle.tl_tree.specs.Inner.Builders.{builder_of, outcome_of, token_of, token_view};
+ghost use Rattle.tl_dom_spec.specs.Builder.{Done, insert_character, insert_comment};
+ghost use Rattle.tl_tree.specs.Inner.Builders.{builder_of, comment_of, outcome_of, token_of, token_view};
 
 use crate::builder::Builder;
 use crate::error::GrowError;
@@ -24,6 +25,26 @@ impl<'a> Builder<'a> {
         }
         self.frameset_not_ok();
         Ok(())
+    }
+
+    /// Inserts the comment that the token is, which is done with.
+    pub(crate) fn comment_inserted(&mut self) -> Result<Outcome, GrowError>
+        ensures ok { IfOk result (λ outcome. outcome_of outcome (builder_of self.new)
+            ≡ Done (insert_comment (comment_of (token_of self.old)) (builder_of self.old))) }
+        ensures token { token_of self.new ≡ token_of self.old }
+    {
+        self.insert_comment()?;
+        Ok(Outcome::Done)
+    }
+
+    /// Inserts the character that the token is, which is done with.
+    pub(crate) fn character_inserted(&mut self, byte: u8) -> Result<Outcome, GrowError>
+        ensures ok { IfOk result (λ outcome. outcome_of outcome (builder_of self.new)
+            ≡ Done (insert_character byte (builder_of self.old))) }
+        ensures token { token_of self.new ≡ token_of self.old }
+    {
+        self.insert_character(byte)?;
+        Ok(Outcome::Done)
     }
 
     pub(crate) fn file_ended(&mut self) -> Result<Outcome, GrowError>
@@ -49,10 +70,7 @@ impl<'a> Builder<'a> {
                 self.body_character(byte)?;
                 Ok(Outcome::Done)
             }
-            Token::Comment => {
-                self.insert_comment()?;
-                Ok(Outcome::Done)
-            }
+            Token::Comment => self.comment_inserted(),
             Token::Doctype => Ok(Outcome::Done),
             Token::Start { group, closes } => self.body_start(group, closes),
             Token::End { group, name } => self.body_end(group, name),

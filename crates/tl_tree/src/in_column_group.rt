@@ -74,14 +74,13 @@ impl<'a> Builder<'a> {
         ensures token { token_of self.new ≡ token_of self.old }
     {
         match token {
-            Token::Character(byte) if byte.is_ascii_whitespace() => self.insert_character(byte)?,
-            Token::Character(_) => return self.after_column_group(),
-            Token::Comment => self.insert_comment()?,
-            Token::Doctype => {}
-            Token::Start { group, closes: _ } => return self.column_start(group),
-            Token::End { group, name: _ } => return self.column_end(group),
-            Token::EndOfFile => return self.file_ended(),
+            Token::Character(byte) if byte.is_ascii_whitespace() => self.character_inserted(byte),
+            Token::Character(_) => self.after_column_group(),
+            Token::Comment => self.comment_inserted(),
+            Token::Doctype => Ok(Outcome::Done),
+            Token::Start { group, closes: _ } => self.column_start(group),
+            Token::End { group, name: _ } => self.column_end(group),
+            Token::EndOfFile => self.file_ended(),
         }
-        Ok(Outcome::Done)
     }
 }

@@ -1,6 +1,6 @@
 //! "in head" (13.2.6.4.4).
 ghost use Rattle.std.specs.Prelude.{IfOk, OnOk, ◌≡◌};
-ghost use Rattle.tl_dom_spec.specs.Builder.{appropriate_place};
+ghost use Rattle.tl_dom_spec.specs.Builder.{Again, appropriate_place};
 ghost use Rattle.tl_dom_spec.specs.Head.{head_closed, in_head_end, in_head_start, in_head_step, noscript_in_head, template_opened};
 ghost use Rattle.tl_tree.specs.Inner.Builders.{builder_of, outcome_of, token_of, token_view};
 ghost use Rattle.tl_tree.specs.Inner.Frames.{place_of};
@@ -23,6 +23,16 @@ impl<'a> Builder<'a> {
         self.pop_current_node()?;
         self.switch_to(Mode::AfterHead);
         Ok(())
+    }
+
+    // The same, and the token is processed again.
+    fn head_left(&mut self) -> Result<Outcome, GrowError>
+        ensures ok { IfOk result (λ outcome. outcome_of outcome (builder_of self.new)
+            ≡ Again (head_closed (builder_of self.old))) }
+        ensures token { token_of self.new ≡ token_of self.old }
+    {
+        self.head_closed()?;
+        Ok(Outcome::Again)
     }
 
     /// A start tag of `template`, whose element goes to a place.
@@ -79,10 +89,7 @@ impl<'a> Builder<'a> {
                 self.parse_raw_text()?
             }
             Group::ATemplate => self.template_opened_here()?,
-            _ => {
-                self.head_closed()?;
-                return Ok(Outcome::Again);
-            }
+            _ => return self.head_left(),
         }
         Ok(Outcome::Done)
     }
@@ -97,8 +104,7 @@ impl<'a> Builder<'a> {
             Group::ATemplate => self.template_end_tag()?,
             _ => {
                 if is_body_end(group) {
-                    self.head_closed()?;
-                    return Ok(Outcome::Again);
+                    return self.head_left();
                 }
             }
         }
@@ -113,23 +119,15 @@ impl<'a> Builder<'a> {
         match token {
             Token::Character(byte) => {
                 if byte.is_ascii_whitespace() {
-                    self.insert_character(byte)?;
-                    return Ok(Outcome::Done);
+                    return self.character_inserted(byte);
                 }
-                self.head_closed()?;
-                Ok(Outcome::Again)
+                self.head_left()
             }
-            Token::Comment => {
-                self.insert_comment()?;
-                Ok(Outcome::Done)
-            }
+            Token::Comment => self.comment_inserted(),
             Token::Doctype => Ok(Outcome::Done),
             Token::Start { group, .. } => self.in_head_start(group),
             Token::End { group, .. } => self.in_head_end(group),
-            Token::EndOfFile => {
-                self.head_closed()?;
-                Ok(Outcome::Again)
-            }
+            Token::EndOfFile => self.head_left(),
         }
     }
 }

@@ -1,5 +1,6 @@
 //! "in head noscript" (13.2.6.4.5).
 ghost use Rattle.std.specs.Prelude.{IfOk, OnOk, ◌≡◌};
+ghost use Rattle.tl_dom_spec.specs.Builder.{Again};
 ghost use Rattle.tl_dom_spec.specs.Head.{in_head_noscript_step, noscript_closed, noscript_end, noscript_start};
 ghost use Rattle.tl_tree.specs.Inner.Builders.{builder_of, outcome_of, token_of, token_view};
 ghost use Rattle.tl_tree.specs.Inner.GroupNames.{group_view as group_of};
@@ -21,6 +22,16 @@ impl<'a> Builder<'a> {
         Ok(())
     }
 
+    // The same, and the token is processed again.
+    fn noscript_left(&mut self) -> Result<Outcome, GrowError>
+        ensures ok { IfOk result (λ outcome. outcome_of outcome (builder_of self.new)
+            ≡ Again (noscript_closed (builder_of self.old))) }
+        ensures token { token_of self.new ≡ token_of self.old }
+    {
+        self.noscript_closed()?;
+        Ok(Outcome::Again)
+    }
+
     fn noscript_start(&mut self, group: Group) -> Result<Outcome, GrowError>
         ensures ok { IfOk result (λ outcome. outcome_of outcome (builder_of self.new)
             ≡ noscript_start (builder_of self.old) (group_of group) (token_of self.old).tag) }
@@ -33,10 +44,7 @@ impl<'a> Builder<'a> {
             }
             Group::ALink | Group::ANoframes | Group::AStyle => self.in_head_start(group),
             Group::TheHead | Group::ANoscript => Ok(Outcome::Done),
-            _ => {
-                self.noscript_closed()?;
-                Ok(Outcome::Again)
-            }
+            _ => self.noscript_left(),
         }
     }
 
@@ -50,10 +58,7 @@ impl<'a> Builder<'a> {
                 self.noscript_closed()?;
                 Ok(Outcome::Done)
             }
-            Group::ABreak => {
-                self.noscript_closed()?;
-                Ok(Outcome::Again)
-            }
+            Group::ABreak => self.noscript_left(),
             _ => Ok(Outcome::Done),
         }
     }
@@ -67,23 +72,15 @@ impl<'a> Builder<'a> {
         match token {
             Token::Character(byte) => {
                 if byte.is_ascii_whitespace() {
-                    self.insert_character(byte)?;
-                    return Ok(Outcome::Done);
+                    return self.character_inserted(byte);
                 }
-                self.noscript_closed()?;
-                Ok(Outcome::Again)
+                self.noscript_left()
             }
-            Token::Comment => {
-                self.insert_comment()?;
-                Ok(Outcome::Done)
-            }
+            Token::Comment => self.comment_inserted(),
             Token::Doctype => Ok(Outcome::Done),
             Token::Start { group, .. } => self.noscript_start(group),
             Token::End { group, .. } => self.noscript_end(group),
-            Token::EndOfFile => {
-                self.noscript_closed()?;
-                Ok(Outcome::Again)
-            }
+            Token::EndOfFile => self.noscript_left(),
         }
     }
 }

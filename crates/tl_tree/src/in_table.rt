@@ -1,6 +1,6 @@
 //! "in table" (13.2.6.4.9).
-ghost use Rattle.std.specs.Prelude.{IfOk, OnOk, [], ◌≡◌};
-ghost use Rattle.tl_dom_spec.specs.Builder.{Again, clear_stack_back_to, in_table_text, insert_element, insert_implied, switch_to};
+ghost use Rattle.std.specs.Prelude.{IfOk, OnOk, ◌≡◌};
+ghost use Rattle.tl_dom_spec.specs.Builder.{Again, clear_stack_back_to, insert_element, insert_implied, switch_to};
 ghost use Rattle.tl_dom_spec.specs.Tables.{in_table_step, table_character, table_closed, table_end, table_form, table_start, with_foster_parenting};
 ghost use Rattle.tl_tree.specs.Inner.Builders.{builder_of, outcome_of, token_of, token_view};
 ghost use Rattle.tl_tree.specs.Inner.GroupNames.{group_view as group_of};
@@ -155,21 +155,6 @@ impl<'a> Builder<'a> {
         Ok(Outcome::Done)
     }
 
-    // What is set as text begins.
-    fn begin_table_text(&mut self)
-        ensures ok { builder_of self.new
-            ≡ record (builder_of self.old) {
-              pending = [];
-              original = (builder_of self.old).mode;
-              mode = in_table_text;
-            } }
-        ensures token { token_of self.new ≡ token_of self.old }
-    {
-        self.pending.clear();
-        self.original = self.mode;
-        self.mode = Mode::InTableText;
-    }
-
     fn table_character(&mut self, byte: u8) -> Result<Outcome, GrowError>
         ensures ok { IfOk result (λ outcome. outcome_of outcome (builder_of self.new)
             ≡ table_character (builder_of self.old) byte) }
@@ -180,7 +165,7 @@ impl<'a> Builder<'a> {
         if !is_text {
             return self.with_foster_parenting(Token::Character(byte));
         }
-        self.begin_table_text();
+        self.await_text();
         Ok(Outcome::Again)
     }
 
@@ -191,10 +176,7 @@ impl<'a> Builder<'a> {
     {
         match token {
             Token::Character(byte) => self.table_character(byte),
-            Token::Comment => {
-                self.insert_comment()?;
-                Ok(Outcome::Done)
-            }
+            Token::Comment => self.comment_inserted(),
             Token::Doctype => Ok(Outcome::Done),
             Token::Start { group, closes } => self.table_start(group, closes),
             Token::End { group, name } => self.table_end(group, name),

@@ -87,10 +87,7 @@ impl<'a> Builder<'a> {
                 }
                 Ok(self.without_doctype())
             }
-            Token::Comment => {
-                self.insert_comment()?;
-                Ok(Outcome::Done)
-            }
+            Token::Comment => self.comment_inserted(),
             Token::Doctype => {
                 self.initial_doctype()?;
                 Ok(Outcome::Done)

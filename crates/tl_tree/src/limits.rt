@@ -20,6 +20,7 @@ use tl_names::element_name::ElementName;
 
 impl<'a> FramePath<'a> {
     // Whether all frames are known where the path is searched.
+    #[inline(always)]
     fn knows_all(&self) -> bool
         ensures { result ≡ true
             → entered self.now.scopes ≡ map (entered_of self.now.store) self.now.frames.items }
@@ -28,6 +29,7 @@ impl<'a> FramePath<'a> {
     }
 
     /// From which place on no frame is of a kind.
+    #[inline(always)]
     pub(crate) fn kind_limit(&self, kind: Kind) -> usize
         ensures within { result ≤ length self.now.frames.items }
         ensures skips { IsTrue (none_from (is_of_kind kind) self.now result) }
@@ -40,6 +42,7 @@ impl<'a> FramePath<'a> {
     }
 
     // From which place on no frame has a name that is known, in any case.
+    #[inline(always)]
     fn known_limit(&self, name: ElementName) -> usize
         ensures within { result ≤ length self.now.frames.items }
         ensures skips { (n : List ℕ) → is_among element_names n ≡ true → name ≡ name_of n
@@ -74,6 +77,7 @@ impl<'a> FramePath<'a> {
     }
 
     // From which place on no HTML element has one of these names.
+    #[inline(always)]
     fn names_limit(&self, names: Names) -> usize
         ensures within { result ≤ length self.now.frames.items }
         ensures skips { IsTrue (none_from (has_tag (is_any (list_of names))) self.now result) }

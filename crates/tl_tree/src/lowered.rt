@@ -1,4 +1,4 @@
-//! Bytes compared in lower case.
+//! Bytes compared, and compared in lower case.
 ghost use Rattle.std.specs.Char.{to_ascii_lowercase};
 ghost use Rattle.std.specs.List.{starts_with};
 ghost use Rattle.std.specs.Prelude.{IfOk, map, ◌==◌, ◌≡◌};
@@ -13,6 +13,22 @@ pub(crate) fn lowercase(alloc: Global, bytes: &[u8]) -> Result<Vec<u8>, AllocErr
     let mut lower = Vec::from_slice(alloc, bytes)?;
     lower.make_ascii_lowercase();
     Ok(lower)
+}
+
+/// Whether bytes are the same as others, which are few: they are looked at one by one.
+#[inline(always)]
+pub(crate) fn are_same(bytes: &[u8], other: &[u8]) -> bool
+    ensures { result ≡ bytes_eq bytes.now other.now }
+{
+    if bytes.len() != other.len() {
+        return false;
+    }
+    for at in 0..bytes.len() {
+        if bytes[at] != other[at] {
+            return false;
+        }
+    }
+    true
 }
 
 /// Whether bytes are others when they are written in lower case.

@@ -91,6 +91,8 @@ impl MetNames {
     }
 
     // A name that is not known is met.
+    #[cold]
+    #[inline(never)]
     fn meet_other(&mut self, alloc: Global, name: &[u8]) -> Result<u32, AllocError>
         ensures own { IfOk result (λ number. number_in self.new name.now ≡ Some number) }
         ensures kept { (n : List ℕ) (number : ℕ) → number_in self.old n ≡ Some number
@@ -104,7 +106,7 @@ impl MetNames {
     }
 
     /// A name is met, which has a number from then on.
-    #[inline]
+    #[inline(always)]
     pub(crate) fn meet(
         &mut self,
         alloc: Global,

@@ -50,6 +50,7 @@ pub(crate) enum Names {
 impl Names {
     /// The names of the list, in its order.
     #[tactic(auto, unfolding(tl_names::specs::ElementNames::name_of, tl_names::specs::ElementNames::element_names))]
+    #[inline(always)]
     pub(crate) fn members(self) -> &'static [ElementName]
         ensures { result.now ≡ map name_of (words (list_of self)) }
     {
@@ -105,6 +106,7 @@ impl Names {
     }
 
     /// Whether a name is one of the list.
+    #[inline(always)]
     pub(crate) fn has(self, name: ElementName) -> bool
         ensures { (n : List ℕ) → name ≡ name_of n → result ≡ is_one_of (list_of self) n }
     {

@@ -23,6 +23,9 @@ use crate::test::{TagTest, Test};
 use std::alloc::Global;
 use tl_names::element_name::ElementName;
 
+// A path of so few frames is walked: that is quicker than to know each of them.
+const FEW: usize = 16;
+
 /// The path, with the outermost frame first, and the store that its frames refer to.
 #[derive(Drop)]
 pub(crate) struct FramePath<'a> {
@@ -478,6 +481,33 @@ impl<'a> FramePath<'a> {
         ensures next { self.new.next ≡ self.old.next }
         ensures grows { Grows self.old.store self.new.store }
     {
+        // What is handed on is a copy: so a frame that has children alone need not be in memory.
+        if frame.late != 0 {
+            let whole = frame;
+            return self.joined_element(whole);
+        }
+        if frame.waiting != 0 {
+            let whole = frame;
+            return self.joined_element(whole);
+        }
+        Ok(Node::Element {
+            tag: frame.tag,
+            below: frame.children,
+        })
+    }
+
+    // The same of a frame that has more than children.
+    #[cold]
+    #[inline(never)]
+    fn joined_element(&mut self, frame: Frame) -> Result<Node, GrowError>
+        requires { IsTrue (is_frame self.old frame) }
+        ensures stands { IfOk result (λ node. node_of self.new.store node
+            ≡ dom.node_of (frame_of self.old.store frame)) }
+        ensures within { IfOk result (λ node. IsTrue (is_node self.new.store node)) }
+        ensures frames { frames_of self.new ≡ frames_of self.old }
+        ensures next { self.new.next ≡ self.old.next }
+        ensures grows { Grows self.old.store self.new.store }
+    {
         let frame = self.folded(frame)?;
         if frame.waiting == 0 {
             return Ok(Node::Element {
@@ -505,6 +535,16 @@ impl<'a> FramePath<'a> {
         let frame = self.take_top();
         let node = self.element(frame)?;
         self.settle_at(frame.place, node)
+    }
+
+    // The same, where loops call it.
+    #[inline(never)]
+    fn settle_next(&mut self) -> Result<(), GrowError>
+        ensures ok { OnOk result (path_of self.new ≡ top_settled (path_of self.old)) }
+        ensures next { self.new.next ≡ self.old.next }
+        ensures grows { Grows self.old.store self.new.store }
+    {
+        self.settle_top()
     }
 
     // Whether the innermost frame is settled, where those are that pass a test, or all others. The
@@ -539,12 +579,13 @@ impl<'a> FramePath<'a> {
         ensures grows { Grows self.old.store self.new.store }
     {
         while self.is_settled(test, is_other) {
-            self.settle_top()?;
+            self.settle_next()?;
         }
         Ok(())
     }
 
     /// Elements are popped while they pass a test.
+    #[inline(always)]
     pub(crate) fn pop_while(&mut self, test: Test<'_>) -> Result<(), GrowError>
         ensures ok { OnOk result (path_of self.new
             ≡ popped_while (test_of test.entry) (path_of self.old)) }
@@ -555,6 +596,7 @@ impl<'a> FramePath<'a> {
     }
 
     /// Elements are popped until the current node passes a test.
+    #[inline(always)]
     pub(crate) fn pop_to(&mut self, test: Test<'_>) -> Result<(), GrowError>
         ensures ok { OnOk result
             (path_of self.new ≡ popped_to (test_of test.entry) (path_of self.old)) }
@@ -575,6 +617,7 @@ impl<'a> FramePath<'a> {
     }
 
     /// Elements are popped until one that passes a test was popped.
+    #[inline(always)]
     pub(crate) fn pop_through(&mut self, test: Test<'_>) -> Result<(), GrowError>
         ensures ok { OnOk result (path_of self.new
             ≡ popped_through (test_of test.entry) (path_of self.old)) }
@@ -646,9 +689,9 @@ impl<'a> FramePath<'a> {
         }
     }
 
-    /// All frames are known where the path is searched.
-    #[inline(always)]
-    pub(crate) fn enter_frames(&mut self) -> Result<(), GrowError>
+    // All frames are known where the path is searched.
+    #[inline(never)]
+    fn enter_all(&mut self) -> Result<(), GrowError>
         ensures frames { self.new.frames.items ≡ self.old.frames.items }
         ensures store { self.new.store ≡ self.old.store }
         ensures next { self.new.next ≡ self.old.next }
@@ -658,6 +701,19 @@ impl<'a> FramePath<'a> {
             self.scopes.enter(entered)?;
         }
         Ok(())
+    }
+
+    /// All frames are known where the path is searched, unless they are few.
+    #[inline(always)]
+    pub(crate) fn enter_frames(&mut self) -> Result<(), GrowError>
+        ensures frames { self.new.frames.items ≡ self.old.frames.items }
+        ensures store { self.new.store ≡ self.old.store }
+        ensures next { self.new.next ≡ self.old.next }
+    {
+        if self.frames.len() <= FEW {
+            return Ok(());
+        }
+        self.enter_all()
     }
 
     // A new element stands on the path.
@@ -889,6 +945,7 @@ impl<'a> FramePath<'a> {
     }
 
     /// Whether an element is open in a scope that these bound.
+    #[inline(always)]
     pub(crate) fn has_within(&self, test: TagTest<'_>, bounds: TagTest<'_>) -> bool
         ensures { result
             ≡ has_within (tag_test_of test.entry) (tag_test_of bounds.entry) (path_of self.now) }
@@ -897,6 +954,7 @@ impl<'a> FramePath<'a> {
     }
 
     /// Whether an element is open.
+    #[inline(always)]
     pub(crate) fn has_open(&self, test: TagTest<'_>) -> bool
         ensures { result ≡ has_open (tag_test_of test.entry) (path_of self.now) }
     {
@@ -915,6 +973,7 @@ impl<'a> FramePath<'a> {
     }
 
     /// Implied end tags are generated, but for elements that pass a test.
+    #[inline(always)]
     pub(crate) fn close_implied(&mut self, but: TagTest<'_>) -> Result<(), GrowError>
         ensures ok { OnOk result (path_of self.new
             ≡ implied_closed (tag_test_of but.entry) (path_of self.old)) }

@@ -4,7 +4,7 @@ ghost use Rattle.tl_dom_spec.specs.HtmlTree.{fragment_read, html_fragment_by, ht
 ghost use Rattle.tl_tree.specs.Contexts.{context_of};
 ghost use Rattle.tl_tree.specs.Inner.Builders.{flags_of};
 ghost use Rattle.tl_tree.specs.Rows.{rows_of};
-ghost use Rattle.tl_tree.specs.Sources.{AreSourced, fragment_begin, page_begin};
+ghost use Rattle.tl_tree.specs.Sources.{AreSourced, IsOutOfProportionAt, fragment_begin, page_begin};
 ghost use Rattle.tl_tree.specs.TreeView.{rows_in};
 
 use crate::builder::Flags;
@@ -21,7 +21,8 @@ impl<'p> Tree<'p> {
     /// A byte order mark is no part of it. It is refused where memory runs out, where the page or
     /// its tree is too large for numbers of 32 bits, and where the tree is out of proportion to the
     /// page: where more than four elements for each token, and 65,536 beside, were put in or opened
-    /// again that no start tag stands for. Such a page is not read further.
+    /// again that no start tag stands for. Such a page is not read further, and the byte is that
+    /// behind the piece of it (a token, a text) that was read last.
     pub fn read(alloc: Global, page: &'p [u8], flags: Flags) -> Result<Tree<'p>, ReadError>
         ensures tree { IfOk result (λ tree.
             rows_in tree ≡ rows_of (html_tree_by (flags_of flags) page.now).trees) }
@@ -34,6 +35,8 @@ impl<'p> Tree<'p> {
         ensures out_of_proportion { (at : ℕ) →
             result ≡ Err (ReadError.OutOfProportion at) →
             is_in_proportion_by (flags_of flags) page.now ≡ false }
+        ensures place { (at : ℕ) → result ≡ Err (ReadError.OutOfProportion at) →
+            IsOutOfProportionAt page.now (page_begin (flags_of flags) page.now) at }
     {
         let mut reader = Reader::new(alloc, page, flags)?;
         reader.read()?;
@@ -67,6 +70,9 @@ impl<'p> Tree<'p> {
             result ≡ Err (ReadError.OutOfProportion at) →
             is_fragment_in_proportion_by (flags_of flags) (context_of context.entry) text.now
             ≡ false }
+        ensures place { (at : ℕ) → result ≡ Err (ReadError.OutOfProportion at) →
+            IsOutOfProportionAt text.now
+            (fragment_begin (flags_of flags) (context_of context.entry)) at }
     {
         let mut reader = Reader::for_fragment(alloc, text, context, flags)?;
         reader.read()?;

@@ -5,7 +5,8 @@ use crate::builder::{Builder, Flags};
 use crate::context::Context;
 use crate::entries::AttributeEntry;
 use crate::error::{GrowError, ReadError};
-use crate::source::{Bounds, keep_source, push_source};
+use crate::places::Places;
+use crate::source::{keep_source, push_source};
 use crate::token::Token;
 use std::alloc::{AllocError, Global};
 use tl_html_parts::{AttributePlace, TagFront, front_parts, next_tag, with_feeds};
@@ -20,7 +21,7 @@ pub(crate) struct Reader<'p> {
     /// How the tokenizer goes on there.
     pub(crate) mode: Mode,
     /// Where the page begins, and where the marks stand that were taken.
-    pub(crate) sources: Vec<Bounds>,
+    pub(crate) sources: Places,
     /// Room for the attributes of a tag.
     pub(crate) room: Vec<AttributeEntry>,
     pub(crate) alloc: Global,
@@ -134,8 +135,8 @@ impl<'p> Reader<'p> {
     ghost use Rattle.tl_tree.specs.Contexts.{context_of};
     ghost use Rattle.tl_tree.specs.Inner.Builders.{builder_of, flags_of};
     ghost use Rattle.tl_tree.specs.Inner.Reading.{left_of};
-    ghost use Rattle.tl_tree.specs.Inner.Sourced.{AreSources, IsSourced};
-    ghost use Rattle.tl_tree.specs.Sources.{Reached, fragment_begin, page_begin};
+    ghost use Rattle.tl_tree.specs.Inner.Sourced.{AreSources, IsSourced, TakesNext};
+    ghost use Rattle.tl_tree.specs.Sources.{IsOutOfProportionAt, Reached, bounds_in, fragment_begin, page_begin};
 
     /// Before the first token of a page.
     pub(crate) fn new(alloc: Global, page: &'p [u8], flags: Flags) -> Result<Reader<'p>, GrowError>
@@ -143,11 +144,13 @@ impl<'p> Reader<'p> {
             token_done (left_of reader) end_of_file ≡ page_read (flags_of flags) page.now) }
         ensures sources { IfOk result (λ reader.
             IsSourced (page_begin (flags_of flags) page.now) reader) }
+        ensures little { IfOk result
+            (λ reader. is_little (builder_of reader.builder).excess ≡ true) }
         ensures page { IfOk result (λ reader. reader.page.now ≡ page.now) }
     {
         let builder = Builder::new(alloc, page, flags)?;
         let at = mark_len(page);
-        let mut sources = Vec::with_capacity(alloc, page.len() / 16)?;
+        let mut sources = Places::new(alloc, page.len() / 16)?;
         push_source(&mut sources, 0, at)?;
         Ok(Reader {
             builder,
@@ -171,10 +174,12 @@ impl<'p> Reader<'p> {
             ≡ fragment_read (flags_of flags) (context_of context.entry) text.now) }
         ensures sources { IfOk result (λ reader.
             IsSourced (fragment_begin (flags_of flags) (context_of context.entry)) reader) }
+        ensures little { IfOk result
+            (λ reader. is_little (builder_of reader.builder).excess ≡ true) }
         ensures page { IfOk result (λ reader. reader.page.now ≡ text.now) }
     {
         let builder = Builder::for_fragment(alloc, text, context, flags)?;
-        let mut sources = Vec::new(alloc);
+        let mut sources = Places::new(alloc, 0)?;
         push_source(&mut sources, 0, 0)?;
         Ok(Reader {
             builder,
@@ -223,8 +228,7 @@ impl<'p> Reader<'p> {
         requires foreign { builder.is_foreign (builder_of self.old.builder) ≡ true }
         requires mode { self.old.mode ≡ Mode.Data }
         ensures ok { OnOk result (left_of self.new ≡ left_of self.old) }
-        ensures sources { OnOk result
-            ((begin : Reached) → IsSourced begin self.old → IsSourced begin self.new) }
+        ensures sources { OnOk result (TakesNext self.old self.new) }
         ensures further { OnOk result (self.old.at < self.new.at) }
         ensures page { self.new.page.now ≡ self.old.page.now }
     {
@@ -245,8 +249,7 @@ impl<'p> Reader<'p> {
         requires open { opens_section builder (builder_of self.old.builder) self.old.page.now
             self.old.at self.old.mode ≡ false }
         ensures ok { OnOk result (left_of self.new ≡ left_of self.old) }
-        ensures sources { OnOk result
-            ((begin : Reached) → IsSourced begin self.old → IsSourced begin self.new) }
+        ensures sources { OnOk result (TakesNext self.old self.new) }
         ensures further { OnOk result (self.old.at < self.new.at) }
         ensures page { self.new.page.now ≡ self.old.page.now }
     {
@@ -265,8 +268,7 @@ impl<'p> Reader<'p> {
         requires open { opens_section builder (builder_of self.old.builder) self.old.page.now
             self.old.at self.old.mode ≡ false }
         ensures ok { OnOk result (left_of self.new ≡ left_of self.old) }
-        ensures sources { OnOk result
-            ((begin : Reached) → IsSourced begin self.old → IsSourced begin self.new) }
+        ensures sources { OnOk result (TakesNext self.old self.new) }
         ensures further { OnOk result (self.old.at < self.new.at) }
         ensures page { self.new.page.now ≡ self.old.page.now }
     {
@@ -284,11 +286,11 @@ impl<'p> Reader<'p> {
     }
 
     // Takes what stands here.
+    #[inline(always)]
     fn take_next(&mut self, places: &mut Vec<AttributePlace>) -> Result<(), GrowError>
         requires { self.old.at < length self.old.page.now }
         ensures ok { OnOk result (left_of self.new ≡ left_of self.old) }
-        ensures sources { OnOk result
-            ((begin : Reached) → IsSourced begin self.old → IsSourced begin self.new) }
+        ensures sources { OnOk result (TakesNext self.old self.new) }
         ensures further { OnOk result (self.old.at < self.new.at) }
         ensures page { self.new.page.now ≡ self.old.page.now }
     {
@@ -309,6 +311,8 @@ impl<'p> Reader<'p> {
         ensures little { OnOk result (is_little (builder_of self.now.builder).excess ≡ true) }
         ensures large { (at : ℕ) → result ≡ Err (ReadError.OutOfProportion at) →
             is_little (builder_of self.now.builder).excess ≡ false }
+        ensures place { (at : ℕ) → result ≡ Err (ReadError.OutOfProportion at) →
+            at ≡ self.now.at }
     {
         if self.builder.is_little() {
             return Ok(());
@@ -323,8 +327,14 @@ impl<'p> Reader<'p> {
             ((begin : Reached) → IsSourced begin self.old → IsSourced begin self.new) }
         ensures page { self.new.page.now ≡ self.old.page.now }
         ensures end { OnOk result (length self.new.page.now ≤ self.new.at) }
+        ensures little { OnOk result (is_little (builder_of self.old.builder).excess ≡ true →
+            is_little (builder_of self.new.builder).excess ≡ true) }
         ensures large { (at : ℕ) → result ≡ Err (ReadError.OutOfProportion at) →
             is_little (token_done (left_of self.old) end_of_file).excess ≡ false }
+        ensures place { (at : ℕ) → result ≡ Err (ReadError.OutOfProportion at) →
+            (begin : Reached) → IsSourced begin self.old →
+            is_little (builder_of self.old.builder).excess ≡ true →
+            IsOutOfProportionAt self.old.page.now begin at }
     {
         // Room for where the attributes of a tag stand.
         let mut places = Vec::new(self.alloc);
@@ -343,12 +353,16 @@ impl<'p> Reader<'p> {
             (builder_of self.new.builder ≡ token_done (left_of self.old) end_of_file) }
         ensures sources { OnOk result ((begin : Reached) → IsSourced begin self.old →
             AreSources self.old.page.now begin (builder_of self.new.builder)
-            self.new.sources.items) }
+            (bounds_in self.new.sources)) }
         ensures page { self.new.page.now ≡ self.old.page.now }
         ensures little { OnOk result
             (is_little (token_done (left_of self.old) end_of_file).excess ≡ true) }
         ensures large { (at : ℕ) → result ≡ Err (ReadError.OutOfProportion at) →
             is_little (token_done (left_of self.old) end_of_file).excess ≡ false }
+        ensures place { (at : ℕ) → result ≡ Err (ReadError.OutOfProportion at) →
+            (begin : Reached) → IsSourced begin self.old →
+            is_little (builder_of self.old.builder).excess ≡ true →
+            IsOutOfProportionAt self.old.page.now begin at }
     {
         self.read_on()?;
         self.builder.take_token(Token::EndOfFile)?;

@@ -54,8 +54,8 @@ impl<'a> Builder<'a> {
         Ok(())
     }
 
-    // Nothing is pending, and characters wait from now on.
-    fn await_text(&mut self)
+    /// Nothing is pending, and characters wait from now on.
+    pub(crate) fn await_text(&mut self)
         ensures ok { builder_of self.new
             ≡ record (builder_of self.old) {
               pending = [];

@@ -1,6 +1,7 @@
 //! The attributes of a tag, put into a store: the first of equal keys alone.
 ghost use Rattle.std.specs.Prelude.{IfOk, IsTrue, OnOk, map, ◌++◌, ◌≡◌};
 ghost use Rattle.std.specs.List.{list_all};
+ghost use Rattle.std.specs.Str.{bytes_eq};
 ghost use Rattle.tl_dom_spec.specs.Tags.{has_attribute, plain_attribute};
 ghost use Rattle.tl_html_spec.specs.HtmlTokenizer.{OpenTag, with_attribute};
 ghost use Rattle.tl_html_parts.specs.Parts.{attributes_of, name_of, value_of};
@@ -21,7 +22,20 @@ use tl_names::element_name::ElementName;
 // So many keys are compared one by one.
 const FEW: usize = 16;
 
+// Whether an attribute has a key. Lengths are compared first.
+#[inline(always)]
+fn is_of_key(store: &Store<'_>, entry: AttributeEntry, key: &[u8]) -> bool
+    requires { IsTrue (is_attribute store.now entry) }
+    ensures { result ≡ bytes_eq (bytes_of store.now entry.key) key.now }
+{
+    if entry.key.len as usize != key.len() {
+        return false;
+    }
+    store.bytes(entry.key) == key
+}
+
 /// Whether one of the attributes has this key.
+#[inline(always)]
 pub(crate) fn has_key(store: &Store<'_>, entries: &[AttributeEntry], key: Span) -> bool
     requires entries { IsTrue (list_all (is_attribute store.now) entries.now) }
     requires key { IsTrue (is_span store.now key) }
@@ -30,7 +44,7 @@ pub(crate) fn has_key(store: &Store<'_>, entries: &[AttributeEntry], key: Span) 
 {
     let own = store.bytes(key);
     for entry in entries {
-        if store.bytes(entry.key) == own {
+        if is_of_key(store, *entry, own) {
             return true;
         }
     }

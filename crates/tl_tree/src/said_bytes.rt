@@ -49,6 +49,7 @@ pub(crate) fn put_bytes(
 }
 
 // A part of the page.
+#[inline(always)]
 fn page_span(store: &Store<'_>, part: PartPlace) -> Span
     requires order { part.start ≤ part.end }
     requires within { part.end ≤ length store.now.page.now }
@@ -61,7 +62,23 @@ fn page_span(store: &Store<'_>, part: PartPlace) -> Span
     }
 }
 
+// A name or a key that doesn't stand in the page as it is read.
+#[cold]
+#[inline(never)]
+fn put_lowered(store: &mut Store<'_>, alloc: Global, name: PartPlace) -> Result<Span, GrowError>
+    requires { IsPart name_of store.old.page.now name }
+    ensures stands { IfOk result (λ span.
+        bytes_of store.new span ≡ name_of (part_in store.old.page.now name)) }
+    ensures within { IfOk result (λ span. IsTrue (is_span store.new span)) }
+    ensures grows { Grows store.old store.new }
+{
+    let page = store.page;
+    let lower = lower_name(alloc, &page[name.start..name.end])?;
+    store.add_bytes(lower.as_bytes())
+}
+
 /// A name or a key of the page, which is read in lower case.
+#[inline(always)]
 pub(crate) fn put_name(
     store: &mut Store<'_>,
     alloc: Global,
@@ -76,12 +93,28 @@ pub(crate) fn put_name(
     if name.is_plain {
         return Ok(page_span(store, name));
     }
+    put_lowered(store, alloc, name)
+}
+
+// A value that doesn't stand in the page as it is read.
+#[cold]
+#[inline(never)]
+fn put_read(store: &mut Store<'_>, alloc: Global, value: PartPlace) -> Result<Span, GrowError>
+    requires { IsPart value_of store.old.page.now value }
+    ensures stands { IfOk result (λ span.
+        bytes_of store.new span ≡ value_of (part_in store.old.page.now value)) }
+    ensures within { IfOk result (λ span. IsTrue (is_span store.new span)) }
+    ensures grows { Grows store.old store.new }
+{
     let page = store.page;
-    let lower = lower_name(alloc, &page[name.start..name.end])?;
-    store.add_bytes(lower.as_bytes())
+    // A script has no references, so these are the characters before references are read.
+    let clean = characters(alloc, Mode::Script, &page[value.start..value.end])?;
+    let said = unescape_value(alloc, clean.as_bytes())?;
+    store.add_bytes(said.as_slice())
 }
 
 /// A value of the page, of which references are read.
+#[inline(always)]
 pub(crate) fn put_value(
     store: &mut Store<'_>,
     alloc: Global,
@@ -96,9 +129,5 @@ pub(crate) fn put_value(
     if value.is_plain {
         return Ok(page_span(store, value));
     }
-    let page = store.page;
-    // A script has no references, so these are the characters before references are read.
-    let clean = characters(alloc, Mode::Script, &page[value.start..value.end])?;
-    let said = unescape_value(alloc, clean.as_bytes())?;
-    store.add_bytes(said.as_slice())
+    put_read(store, alloc, value)
 }

@@ -147,6 +147,7 @@ impl Scopes {
     }
 
     /// An element comes onto the path.
+    #[inline(always)]
     pub(crate) fn enter(&mut self, own: Entered) -> Result<(), GrowError>
         requires { list_any (is_numbered own.number) (entered self.old) ≡ false }
         ensures ok { OnOk result (entered self.new ≡ entered self.old ++ own ∷ []) }

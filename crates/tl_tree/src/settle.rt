@@ -6,36 +6,38 @@
 ghost use Rattle.std.specs.Bool.{IsTrue};
 ghost use Rattle.std.specs.List.{list_all};
 ghost use Rattle.std.specs.Option.{MatchOption};
-ghost use Rattle.std.specs.Prelude.{IfOk, IfSome, OnOk, [], length, ◌+◌, ◌++◌, ◌<◌, ◌≡◌, ◌^◌, ◌∷◌};
+ghost use Rattle.std.specs.Prelude.{IfOk, IfSome, OnOk, [], length, ◌+◌, ◌++◌, ◌<◌, ◌≡◌, ◌^◌, ◌∷◌, ◌≤◌};
 ghost use Rattle.tl_dom_spec.specs.HtmlForest.{before, has_contents, no_trees};
 ghost use Rattle.tl_dom_spec.specs.Marks.{marked};
 ghost use Rattle.tl_dom_spec.specs.Path.{and_element, joined, no_nodes};
 ghost use Rattle.tl_tree.specs.Inner.Gathering.{closed, gathered, flushed, only_rows, put, with_piece};
 ghost use Rattle.tl_tree.specs.Inner.RowView.{bytes_in, held_in, held_is_within};
-ghost use Rattle.tl_tree.specs.Inner.Settling.{AreRowsOf, Copies, Ends, Goes, Pushes, Sound, Turns, flats_of, held_weight, sizes_with, state_of, text_of_pieces, text_with, weight_of};
+ghost use Rattle.tl_tree.specs.Inner.Settling.{AreRowsOf, Copies, Cuts, Ends, Goes, Pushes, Sound, Turns, Writes, comes_to, flats_of, held_weight, sizes_with, state_of, text_of_pieces, text_with, weight_of};
 ghost use Rattle.tl_tree.specs.Inner.Store.{bytes_of, is_node, is_row, is_span, is_tag_number, node_of, sizes_of, nodes_of, tag_at, text_of};
 ghost use Rattle.tl_tree.specs.Inner.Within.{span_is_within};
 ghost use Rattle.tl_tree.specs.Rows.{rows_of};
+ghost use Rattle.tl_tree.specs.Sources.{bounds_in};
 ghost use Rattle.tl_tree.specs.TreeView.{rows_in};
 
 use crate::cell::{Cell, Node};
 use crate::entries::Namespace;
 use crate::error::GrowError;
+use crate::places::Places;
 use crate::row::{Held, Row};
 use crate::seat::seat;
 use crate::settling::{Opened, Settled, Settling};
-use crate::source::Bounds;
 use crate::span::{Piece, Span};
 use crate::store::Store;
 use crate::tree::Tree;
 use std::alloc::Global;
+use tl_names::element_name::ElementName;
 
-impl<'s, 'p> Settling<'s, 'p> {
+impl<'p> Settling<'p> {
     /// A row, before those that are written.
     fn push(&mut self, held: Held, behind: u32) -> Result<(), GrowError>
         requires sound { Sound self.old }
         requires within { IsTrue
-            (held_is_within (sizes_with self.old.store.now self.old.copied.items) held) }
+            (held_is_within (sizes_with self.old.store self.old.copied.items) held) }
         ensures { OnOk result (Pushes self.old self.new held behind) }
     {
         if self.rows.len() >= u32::MAX as usize {
@@ -67,7 +69,7 @@ impl<'s, 'p> Settling<'s, 'p> {
             return Ok(self.pieces[0]);
         }
         let start = self.store.page.len() + (self.store.side.len() + self.copied.len());
-        copy(self.store, self.pieces.as_slice(), &mut self.copied)?;
+        copy(&self.store, self.pieces.as_slice(), &mut self.copied)?;
         let end = self.store.page.len() + (self.store.side.len() + self.copied.len());
         Ok(Span {
             start: start as u32,
@@ -94,16 +96,16 @@ impl<'s, 'p> Settling<'s, 'p> {
     /// A piece of a text, before what is written.
     fn add_piece(&mut self, piece: Span, source: u32) -> Result<(), GrowError>
         requires sound { Sound self.old }
-        requires within { IsTrue (is_span self.old.store.now piece) }
+        requires within { IsTrue (is_span self.old.store piece) }
         ensures { OnOk result (Turns self.old self.new
-            (with_piece (marked source (bytes_of self.old.store.now piece)) (state_of self.old))) }
+            (with_piece (marked source (bytes_of self.old.store piece)) (state_of self.old))) }
     {
         self.source = source;
         let Some(next) = self.pieces.pop() else {
             self.pieces.push(piece)?;
             return Ok(());
         };
-        if let Some(both) = beside(self.store, piece, next) {
+        if let Some(both) = beside(&self.store, piece, next) {
             self.pieces.push(both)?;
             return Ok(());
         }
@@ -115,9 +117,9 @@ impl<'s, 'p> Settling<'s, 'p> {
     /// A comment or a doctype, before what is written.
     fn add(&mut self, held: Held) -> Result<(), GrowError>
         requires sound { Sound self.old }
-        requires within { IsTrue (held_is_within (sizes_of self.old.store.now) held) }
+        requires within { IsTrue (held_is_within (sizes_of self.old.store) held) }
         ensures { OnOk result (Turns self.old self.new
-            (put (held_in self.old.store.now (text_of self.old.store.now) held)
+            (put (held_in self.old.store (text_of self.old.store) held)
             (state_of self.old))) }
     {
         self.flush()?;
@@ -127,12 +129,12 @@ impl<'s, 'p> Settling<'s, 'p> {
     /// An element, before what is below it.
     fn close(&mut self, tag: u32, behind: u32) -> Result<(), GrowError>
         requires sound { Sound self.old }
-        requires within { IsTrue (is_tag_number self.old.store.now tag) }
+        requires within { IsTrue (is_tag_number self.old.store tag) }
         ensures { OnOk result (Turns self.old self.new
-            (closed (tag_at self.old.store.now tag) behind (state_of self.old))) }
+            (closed (tag_at self.old.store tag) behind (state_of self.old))) }
     {
         self.flush()?;
-        if is_template(self.store, tag) {
+        if is_template(&self.store, tag) {
             self.push(Held::Contents, behind)?;
         }
         self.push(Held::Element(tag), behind)
@@ -141,13 +143,13 @@ impl<'s, 'p> Settling<'s, 'p> {
     /// The node of a cell. The answer is the row that is written next.
     fn step(&mut self, cell: Cell) -> Result<u32, GrowError>
         requires sound { Sound self.old }
-        requires before { IsTrue (is_row self.old.store.now cell.before) }
-        requires node { IsTrue (is_node self.old.store.now cell.node) }
+        requires before { IsTrue (is_row self.old.store cell.before) }
+        requires node { IsTrue (is_node self.old.store cell.node) }
         ensures { IfOk result (Goes self.old self.new
-            (joined (nodes_of self.old.store.now cell.before)
-            (node_of self.old.store.now cell.node))
-            (1 + weight_of self.old.store.now cell.before
-            + held_weight self.old.store.now cell.node)) }
+            (joined (nodes_of self.old.store cell.before)
+            (node_of self.old.store cell.node))
+            (1 + weight_of self.old.store cell.before
+            + held_weight self.old.store cell.node)) }
     {
         match cell.node {
             Node::Text(piece) => self.add_piece(piece.span, piece.source)?,
@@ -165,14 +167,14 @@ impl<'s, 'p> Settling<'s, 'p> {
     /// An element, what is below which is written next.
     fn open(&mut self, tag: u32, below: u32, before: u32) -> Result<u32, GrowError>
         requires sound { Sound self.old }
-        requires before { IsTrue (is_row self.old.store.now before) }
-        requires tag { IsTrue (is_tag_number self.old.store.now tag) }
-        requires below { IsTrue (is_row self.old.store.now below) }
+        requires before { IsTrue (is_row self.old.store before) }
+        requires tag { IsTrue (is_tag_number self.old.store tag) }
+        requires below { IsTrue (is_row self.old.store below) }
         ensures { IfOk result (Goes self.old self.new
-            (and_element (nodes_of self.old.store.now before) (tag_at self.old.store.now tag)
-            (nodes_of self.old.store.now below))
-            (1 + weight_of self.old.store.now before
-            + (1 + weight_of self.old.store.now below))) }
+            (and_element (nodes_of self.old.store before) (tag_at self.old.store tag)
+            (nodes_of self.old.store below))
+            (1 + weight_of self.old.store before
+            + (1 + weight_of self.old.store below))) }
     {
         self.flush()?;
         let behind = self.written();
@@ -210,11 +212,11 @@ impl<'s, 'p> Settling<'s, 'p> {
     /// The node that a row ends with, or what follows the row.
     fn go(&mut self, row: u32) -> Result<Option<u32>, GrowError>
         requires sound { Sound self.old }
-        requires within { IsTrue (is_row self.old.store.now row) }
+        requires within { IsTrue (is_row self.old.store row) }
         ensures { IfOk result (λ next. MatchOption next
-            (Ends self.old self.new (nodes_of self.old.store.now row))
-            (Goes self.old self.new (nodes_of self.old.store.now row)
-            (weight_of self.old.store.now row))) }
+            (Ends self.old self.new (nodes_of self.old.store row))
+            (Goes self.old self.new (nodes_of self.old.store row)
+            (weight_of self.old.store row))) }
     {
         if row == 0 {
             return self.resume();
@@ -223,16 +225,56 @@ impl<'s, 'p> Settling<'s, 'p> {
         Ok(Some(self.step(cell)?))
     }
 
+    /// A number of cells that all come to which are still to be written.
+    fn needed(&self, row: u32) -> u32
+        requires sound { Sound self.now }
+        requires within { IsTrue (is_row self.now.store row) }
+        ensures row { row ≤ result }
+        ensures within { IsTrue (is_row self.now.store result) }
+        ensures all { IsTrue (list_all (comes_to result) self.now.stack.items) }
+    {
+        let mut needed = row;
+        let mut left = self.stack.len();
+        while left > 0 {
+            left -= 1;
+            let before = self.stack[left].before();
+            if needed < before {
+                needed = before;
+            }
+        }
+        needed
+    }
+
+    /// Gives the cells back that nothing comes to any more, where a row is written next.
+    #[cold]
+    #[inline(never)]
+    fn cut(&mut self, row: u32)
+        requires sound { Sound self.old }
+        requires within { IsTrue (is_row self.old.store row) }
+        ensures { Cuts self.old self.new row }
+    {
+        let needed = self.needed(row);
+        self.store.keep_cells(needed as usize);
+    }
+
     /// All rows of a row of nodes.
     pub(crate) fn run(&mut self, row: u32) -> Result<(), GrowError>
         requires sound { Sound self.old }
-        requires within { IsTrue (is_row self.old.store.now row) }
+        requires within { IsTrue (is_row self.old.store row) }
         requires alone { self.old.stack.items ≡ [] }
-        ensures { OnOk result (Turns self.old self.new (only_rows
-            (flushed (gathered (nodes_of self.old.store.now row) (state_of self.old))))) }
+        ensures { OnOk result (Writes self.old self.new (only_rows
+            (flushed (gathered (nodes_of self.old.store row) (state_of self.old))))) }
     {
+        // Cells are mostly come to from the last to the first. So whenever a part of them is done
+        // with it is given back; the row 0 has no cell, and says nothing of how many are.
+        let many = row / 16 + 4096;
+        let mut mark = row.saturating_sub(many);
         let mut next = Some(row);
         while let Some(current) = next {
+            if current < mark && current > 0 {
+                self.cut(current);
+                mark = current.saturating_sub(many);
+            }
             next = self.go(current)?;
         }
         self.flush()
@@ -270,9 +312,9 @@ fn is_template(store: &Store<'_>, tag: u32) -> bool
     requires { IsTrue (is_tag_number store.now tag) }
     ensures { result ≡ has_contents (tag_at store.now tag) }
 {
-    let entry = store.tags[tag as usize];
+    let entry = store.tag(tag);
     match entry.space {
-        Namespace::Html => store.bytes(entry.name) == b"template".as_slice(),
+        Namespace::Html => entry.known == ElementName::TEMPLATE,
         _ => false,
     }
 }
@@ -295,9 +337,14 @@ fn beside(store: &Store<'_>, first: Span, second: Span) -> Option<Span>
 }
 
 /// The rows of a row of nodes.
-pub(crate) fn settle(alloc: Global, store: &Store<'_>, row: u32) -> Result<Settled, GrowError>
-    requires { IsTrue (is_row store.now row) }
-    ensures { IfOk result (AreRowsOf store.now row) }
+pub(crate) fn settle<'p>(
+    alloc: Global,
+    store: Store<'p>,
+    row: u32,
+) -> Result<Settled<'p>, GrowError>
+    requires { IsTrue (is_row store row) }
+    ensures rows { IfOk result (AreRowsOf (before (nodes_of store.entry row) no_trees)) }
+    ensures page { IfOk result (λ made. made.store.page.now ≡ store.entry.page.now) }
 {
     let rows = Vec::with_capacity(alloc, store.cells.len())?;
     let mut settling = Settling {
@@ -310,7 +357,7 @@ pub(crate) fn settle(alloc: Global, store: &Store<'_>, row: u32) -> Result<Settl
     };
     settling.run(row)?;
     let Settling {
-        store: _,
+        store,
         copied,
         mut rows,
         pieces: _,
@@ -319,7 +366,11 @@ pub(crate) fn settle(alloc: Global, store: &Store<'_>, row: u32) -> Result<Settl
     } = settling;
     rows.reverse();
     seat(rows.as_mut_slice());
-    Ok(Settled { rows, copied })
+    Ok(Settled {
+        store,
+        rows,
+        copied,
+    })
 }
 
 /// The tree of a row of nodes, with the places of the marks. Nothing but this row is left of
@@ -328,18 +379,18 @@ pub(crate) fn tree_of<'p>(
     alloc: Global,
     store: Store<'p>,
     row: u32,
-    sources: Vec<Bounds>,
+    sources: Places,
     is_quirks: bool,
 ) -> Result<Tree<'p>, GrowError>
     requires { IsTrue (is_row store row) }
     ensures rows { IfOk result (λ tree.
         rows_in tree ≡ rows_of (before (nodes_of store.entry row) no_trees)) }
-    ensures sources { IfOk result (λ tree. tree.sources.items ≡ sources.items) }
+    ensures sources { IfOk result (λ tree. bounds_in tree.sources ≡ bounds_in sources) }
     ensures page { IfOk result (λ tree. tree.store.page.now ≡ store.entry.page.now) }
     ensures quirks { IfOk result (λ tree. tree.is_quirks ≡ is_quirks) }
 {
-    let made = settle(alloc, &store, row)?;
-    let mut store = store;
+    let made = settle(alloc, store, row)?;
+    let mut store = made.store;
     store.add_bytes(made.copied.as_slice())?;
     store.cells = Vec::new(alloc);
     Ok(Tree {

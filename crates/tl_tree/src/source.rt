@@ -1,8 +1,10 @@
 //! Where in the page what stands in a tree comes from.
-ghost use Rattle.std.specs.Prelude.{IsTrue, OnOk, [], suc, ◌++◌, ◌≡◌, ◌∷◌};
+ghost use Rattle.std.specs.Prelude.{IsTrue, OnOk, [], suc, ◌++◌, ◌<◌, ◌^◌, ◌∷◌, ◌≡◌, ◌≤◌};
 ghost use Rattle.tl_tree.specs.Inner.Sourced.{with_source};
+ghost use Rattle.tl_tree.specs.Sources.{bounds_in};
 
 use crate::error::GrowError;
+use crate::places::Places;
 use crate::row::Held;
 use crate::tree::Tree;
 use tl_html_tokens::{Front, TokenKind};
@@ -22,28 +24,26 @@ pub(crate) struct Bounds {
 }
 
 /// Keeps where what stands in front begins and ends, if that is a mark.
-pub(crate) fn keep_source(
-    sources: &mut Vec<Bounds>,
-    start: usize,
-    front: Front,
-) -> Result<(), GrowError>
+pub(crate) fn keep_source(sources: &mut Places, start: usize, front: Front) -> Result<(), GrowError>
+    requires order { start ≤ front.end }
+    requires short { front.end < 2 ^ 32 }
     ensures { OnOk result
-        (sources.new.items ≡ with_source sources.old.items start front) }
+        (bounds_in sources.new ≡ with_source (bounds_in sources.old) start front) }
 {
     if matches!(front.kind, TokenKind::Text | TokenKind::Nothing) {
         return Ok(());
     }
-    push_source(sources, start, front.end)
+    sources.push(Bounds {
+        start: start as u32,
+        end: front.end as u32,
+    })
 }
 
 /// Keeps the begin and the end of a mark, or of what stands before all marks.
-pub(crate) fn push_source(
-    sources: &mut Vec<Bounds>,
-    start: usize,
-    end: usize,
-) -> Result<(), GrowError>
-    ensures { OnOk result (sources.new.items
-        ≡ sources.old.items ++ record { start = start; end = end } ∷ []) }
+pub(crate) fn push_source(sources: &mut Places, start: usize, end: usize) -> Result<(), GrowError>
+    requires { start ≤ end }
+    ensures { OnOk result (bounds_in sources.new
+        ≡ bounds_in sources.old ++ record { start = start; end = end } ∷ []) }
 {
     if start > u32::MAX as usize || end > u32::MAX as usize {
         return Err(GrowError::TooLarge);
@@ -51,8 +51,7 @@ pub(crate) fn push_source(
     sources.push(Bounds {
         start: start as u32,
         end: end as u32,
-    })?;
-    Ok(())
+    })
 }
 
 impl<'p> Tree<'p> {

@@ -81,7 +81,7 @@ impl<'a> Store<'a> {
     ghost use Rattle.tl_dom_spec.specs.Path.{joined};
     ghost use Rattle.tl_tree.specs.Inner.MetNames.{number_in};
     ghost use Rattle.tl_tree.specs.Inner.NameNumbers.{number_at};
-    ghost use Rattle.tl_tree.specs.Inner.Store.{Grows, attribute_of, bytes_of, doctype_at, doctype_of, is_attribute, is_doctype, is_doctype_number, is_node, is_row, is_span, is_tag, is_tag_number, list_in, node_of, nodes_of, tag_at, tag_of};
+    ghost use Rattle.tl_tree.specs.Inner.Store.{Grows, IsAlike, attribute_of, bytes_of, doctype_at, doctype_of, is_attribute, is_doctype, is_doctype_number, is_node, is_row, is_span, is_tag, is_tag_number, list_in, node_of, nodes_of, tag_at, tag_of};
 
     /// Nothing yet.
     pub(crate) fn new(alloc: Global, page: &'a [u8]) -> Result<Store<'a>, GrowError>
@@ -121,6 +121,16 @@ impl<'a> Store<'a> {
         }
         self.cells.push(Cell { before, node })?;
         Ok(self.cells.len() as u32)
+    }
+
+    /// Keeps the first cells, and gives the others back.
+    pub(crate) fn keep_cells(&mut self, count: usize)
+        ensures cells { self.new.cells.items ≡ take count self.old.cells.items }
+        ensures begins { Grows self.new self.old }
+        ensures alike { IsAlike self.old self.new }
+    {
+        self.cells.truncate(count);
+        self.cells.shrink_to_fit();
     }
 
     /// Two rows as one.

@@ -10,6 +10,7 @@ ghost use Rattle.tl_dom_spec.specs.Marks.{unmarked};
 ghost use Rattle.tl_html_spec.specs.Driven.{Emission, taken};
 ghost use Rattle.tl_html_parts.specs.Fronts.{IsTagRead};
 ghost use Rattle.tl_html_parts.specs.Parts.{name_of};
+ghost use Rattle.tl_names.specs.ElementNames.{name_of as number_of};
 ghost use Rattle.tl_html_parts.specs.Places.{AreParts, IsPart};
 ghost use Rattle.tl_html_tokens.specs.Characters.{characters_of};
 ghost use Rattle.tl_html_tokens.specs.Comments.{comment_of};
@@ -24,6 +25,7 @@ use crate::builder::Builder;
 use crate::entries::AttributeEntry;
 use crate::error::GrowError;
 use crate::group::group_of;
+use crate::lowered::are_same;
 use crate::token::Token;
 use std::alloc::Global;
 use tl_html_parts::{AttributePlace, PartPlace, TagFront};
@@ -33,6 +35,7 @@ use tl_names::element_name::ElementName;
 
 impl<'a> Builder<'a> {
     /// Takes a start tag of the page.
+    #[inline(always)]
     pub(crate) fn take_start_tag(
         &mut self,
         alloc: Global,
@@ -109,17 +112,31 @@ impl<'a> Builder<'a> {
         self.take_run(text)
     }
 
+    // The number of a name, which is mostly that of the current node.
+    #[inline(always)]
+    fn known_name(&self, name: &[u8]) -> ElementName
+        ensures { result ≡ number_of name.now }
+    {
+        let own = self.path.store.tag(self.path.top().tag);
+        if are_same(name, self.path.store.bytes(own.name)) {
+            return own.known;
+        }
+        ElementName::of(name)
+    }
+
     // An end tag of a name.
+    #[inline(always)]
     fn take_end(&mut self, name: &[u8]) -> Result<(), GrowError>
         ensures ok { OnOk result (builder_of self.new
             ≡ token_done (builder_of self.old) (an_end (group name.now) name.now)) }
         ensures page { (token_of self.new).page ≡ (token_of self.old).page }
     {
-        let group = group_of(ElementName::of(name));
+        let group = group_of(self.known_name(name));
         self.take_token(Token::End { group, name })
     }
 
     /// Takes an end tag of the page, whose name stands there.
+    #[inline(always)]
     pub(crate) fn take_end_tag(&mut self, alloc: Global, name: PartPlace) -> Result<(), GrowError>
         requires { IsPart name_of self.old.path.store.page.now name }
         ensures ok { OnOk result (builder_of self.new
@@ -137,6 +154,7 @@ impl<'a> Builder<'a> {
     }
 
     /// Takes a tag that stands in front at a place, where markup is read.
+    #[inline(always)]
     pub(crate) fn take_tag(
         &mut self,
         alloc: Global,

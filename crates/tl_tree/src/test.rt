@@ -12,6 +12,7 @@ ghost use Rattle.tl_tree.specs.Inner.Tests.{named, tag_test_of};
 use crate::entries::{Namespace, TagEntry};
 use crate::frame::Frame;
 use crate::integration::is_html_place;
+use crate::lowered::are_same;
 use crate::names::Names;
 use crate::store::Store;
 use tl_names::class::Class;
@@ -60,6 +61,7 @@ pub(crate) fn is_one_of(words: &[u8], name: &[u8]) -> bool
 
 // Elements of a namespace by the numbers of their names
 
+#[inline(always)]
 pub(crate) fn is_any(names: Names, space: Namespace, name: ElementName) -> bool
     ensures { (n : List ℕ) → name ≡ name_of n
         → result ≡ is_any (list_of names) (named space n) }
@@ -67,24 +69,28 @@ pub(crate) fn is_any(names: Names, space: Namespace, name: ElementName) -> bool
     space.is_html() && names.has(name)
 }
 
+#[inline(always)]
 fn is_implied(space: Namespace, name: ElementName) -> bool
     ensures { (n : List ℕ) → name ≡ name_of n → result ≡ is_implied (named space n) }
 {
     space.is_html() && name.is(Class::Implied)
 }
 
+#[inline(always)]
 fn is_implied_thoroughly(space: Namespace, name: ElementName) -> bool
     ensures { (n : List ℕ) → name ≡ name_of n → result ≡ is_implied_thoroughly (named space n) }
 {
     space.is_html() && name.is(Class::ImpliedThoroughly)
 }
 
+#[inline(always)]
 fn is_heading(space: Namespace, name: ElementName) -> bool
     ensures { (n : List ℕ) → name ≡ name_of n → result ≡ is_heading (named space n) }
 {
     space.is_html() && name.is(Class::Heading)
 }
 
+#[inline(always)]
 pub(crate) fn is_scope(space: Namespace, name: ElementName) -> bool
     ensures { (n : List ℕ) → name ≡ name_of n → result ≡ is_scope (named space n) }
 {
@@ -95,12 +101,14 @@ pub(crate) fn is_scope(space: Namespace, name: ElementName) -> bool
     }
 }
 
+#[inline(always)]
 fn is_special_name(counts_search: bool, name: ElementName) -> bool
     ensures { (n : List ℕ) → name ≡ name_of n → result ≡ is_special_name counts_search n }
 {
     name.is(Class::Special) && (counts_search || name != ElementName::SEARCH)
 }
 
+#[inline(always)]
 pub(crate) fn is_special(counts_search: bool, space: Namespace, name: ElementName) -> bool
     ensures { (n : List ℕ) → name ≡ name_of n
         → result ≡ is_special counts_search (named space n) }
@@ -120,6 +128,7 @@ fn is_passed_over(space: Namespace, name: ElementName) -> bool
     space.is_html() && name.is(Class::AddressDivParagraph)
 }
 
+#[inline(always)]
 pub(crate) fn is_item_bound(counts_search: bool, space: Namespace, name: ElementName) -> bool
     ensures { (n : List ℕ) → name ≡ name_of n
         → result ≡ is_item_bound counts_search (named space n) }
@@ -144,7 +153,7 @@ impl<'n> TagTest<'n> {
         match self {
             TagTest::Nothing => false,
             TagTest::Any(names) => is_any(names, tag.space, tag.known),
-            TagTest::Named(own) => tag.space.is_html() && own == store.bytes(tag.name),
+            TagTest::Named(own) => tag.space.is_html() && are_same(own, store.bytes(tag.name)),
             TagTest::Scope => is_scope(tag.space, tag.known),
             TagTest::ScopeOr(names) => {
                 is_scope(tag.space, tag.known) || is_any(names, tag.space, tag.known)
@@ -167,6 +176,7 @@ impl<'n> TagTest<'n> {
 }
 
 // Whether the end tag of an element is implied.
+#[inline(always)]
 fn is_implied_tag(store: &Store<'_>, number: u32) -> bool
     requires { IsTrue (is_tag_number store.now number) }
     ensures { result ≡ is_implied (tag_at store.now number) }

@@ -4,8 +4,8 @@ ghost use Rattle.std.specs.List.{list_all};
 ghost use Rattle.std.specs.Prelude.{length, ◌<◌, ◌^◌};
 ghost use Rattle.tl_tree.specs.Inner.RowView.{are_in_order, row_is_within};
 
+use crate::places::Places;
 use crate::row::Row;
-use crate::source::Bounds;
 use crate::store::Store;
 
 /// The tree of a page: its nodes in the order of the page, each of which is a row with a number.
@@ -16,7 +16,7 @@ pub struct Tree<'p> {
     pub(crate) store: Store<'p>,
     pub(crate) rows: Vec<Row>,
     /// Where the page begins, and where its marks stand, one after the other.
-    pub(crate) sources: Vec<Bounds>,
+    pub(crate) sources: Places,
     pub(crate) is_quirks: bool,
     ghost few: { length rows.items < 2 ^ 32 },
     ghost rows_within: { IsTrue

@@ -1,13 +1,13 @@
 -- What settling has written, and what it has still to write.
 use Rattle.std.specs.Bool.{IsTrue}
 use Rattle.std.specs.List.{list_all}
-use Rattle.std.specs.Prelude.{Bool, List, None, Option, Some, [], length, map, reverse, slice_index_or, ℕ, ◌&&◌, ◌+◌, ◌++◌, ◌<◌, ◌^◌, ◌≡◌, ◌∷◌}
-use Rattle.tl_dom_spec.specs.HtmlForest.{before, no_trees}
+use Rattle.std.specs.Prelude.{Bool, List, None, Option, Some, [], length, map, nat_le, reverse, slice_index_or, ℕ, ◌&&◌, ◌+◌, ◌++◌, ◌<◌, ◌^◌, ◌≡◌, ◌∷◌}
+use Rattle.tl_dom_spec.specs.HtmlForest.{HtmlForest}
 use Rattle.tl_dom_spec.specs.Marks.{Marked, marked}
 use Rattle.tl_dom_spec.specs.Path.{Nodes}
 use Rattle.tl_tree.specs.Inner.Gathering.{Flat, Gathered, closed, flat, gathered}
 use Rattle.tl_tree.specs.Inner.RowView.{bytes_in, flat_in, held_in, row_in, row_is_within}
-use Rattle.tl_tree.specs.Inner.Store.{bytes_of, is_row, is_span, is_tag_number, nodes_of, sizes_of, tag_at, text_of}
+use Rattle.tl_tree.specs.Inner.Store.{IsAlike, bytes_of, is_row, is_span, is_tag_number, nodes_of, sizes_of, tag_at, text_of}
 use Rattle.tl_tree.specs.Inner.Within.{Sizes, span_is_within}
 use Rattle.tl_tree.specs.Rows.{rows_of}
 use Rattle.tl_tree.specs.declared.cell.Cell.{Cell}
@@ -32,12 +32,12 @@ opened_is_within s (opened.Element tag before behind) = is_tag_number s tag && i
 opened_is_within s (opened.Row before) = is_row s before
 
 pub record Sound (g : Settling) : Type 0 where
-  pub short : length g.store.now.page.now
-      + (length g.store.now.side.items + length g.copied.items) < 2 ^ 32
+  pub short : length g.store.page.now
+      + (length g.store.side.items + length g.copied.items) < 2 ^ 32
   pub few : length g.rows.items < 2 ^ 32
-  pub rows : IsTrue (list_all (row_is_within (sizes_with g.store.now g.copied.items)) g.rows.items)
-  pub pieces : IsTrue (list_all (is_span g.store.now) g.pieces.items)
-  pub stack : IsTrue (list_all (opened_is_within g.store.now) g.stack.items)
+  pub rows : IsTrue (list_all (row_is_within (sizes_with g.store g.copied.items)) g.rows.items)
+  pub pieces : IsTrue (list_all (is_span g.store) g.pieces.items)
+  pub stack : IsTrue (list_all (opened_is_within g.store) g.stack.items)
 
 -- What is written
 
@@ -55,11 +55,11 @@ pending_of s source [] = None
 pending_of s source (piece ∷ pieces) = Some (marked source (text_of_pieces s (piece ∷ pieces)))
 
 abbrev pub flats_of : Settling → List Flat
-flats_of g = map (flat_in g.store.now (text_with g.store.now g.copied.items)) g.rows.items
+flats_of g = map (flat_in g.store (text_with g.store g.copied.items)) g.rows.items
 
 abbrev pub state_of : Settling → Gathered
 state_of g = record {
-  pending = pending_of g.store.now g.source g.pieces.items;
+  pending = pending_of g.store g.source g.pieces.items;
   rows = flats_of g;
 }
 
@@ -74,7 +74,7 @@ resumed s (opened.Row before ∷ stack) g = resumed s stack (gathered (nodes_of 
 
 -- all that will be written
 abbrev pub whole_of : Settling → Nodes → Gathered
-whole_of g nodes = resumed g.store.now (reverse g.stack.items) (gathered nodes (state_of g))
+whole_of g nodes = resumed g.store (reverse g.stack.items) (gathered nodes (state_of g))
 
 -- How much is to be written: a step for each cell that a row comes to
 
@@ -114,7 +114,7 @@ pub record Pushes (old new : Settling) (held : Held) (behind : ℕ) : Type 0 whe
   pub sound : Sound new
   pub store : new.store ≡ old.store
   pub rows : flats_of new ≡ flats_of old
-      ++ flat (held_in old.store.now (text_with old.store.now old.copied.items) held) behind ∷ []
+      ++ flat (held_in old.store (text_with old.store old.copied.items) held) behind ∷ []
   pub copied : new.copied.items ≡ old.copied.items
   pub pieces : new.pieces.items ≡ old.pieces.items
   pub source : new.source ≡ old.source
@@ -125,11 +125,11 @@ pub record Copies (old new : Settling) (span : Span) : Type 0 where
   pub sound : Sound new
   pub store : new.store ≡ old.store
   pub within : IsTrue
-      (span_is_within (length old.store.now.page.now)
-      (length old.store.now.side.items + length new.copied.items)
+      (span_is_within (length old.store.page.now)
+      (length old.store.side.items + length new.copied.items)
       span)
-  pub bytes : bytes_in (text_with old.store.now new.copied.items) span
-      ≡ text_of_pieces old.store.now old.pieces.items
+  pub bytes : bytes_in (text_with old.store new.copied.items) span
+      ≡ text_of_pieces old.store old.pieces.items
   pub rows : flats_of new ≡ flats_of old
   pub pieces : new.pieces.items ≡ old.pieces.items
   pub source : new.source ≡ old.source
@@ -146,10 +146,10 @@ pub record Turns (old new : Settling) (given : Gathered) : Type 0 where
 pub record Goes (old new : Settling) (nodes : Nodes) (weight : ℕ) (next : ℕ) : Type 0 where
   pub sound : Sound new
   pub store : new.store ≡ old.store
-  pub within : IsTrue (is_row new.store.now next)
-  pub whole : whole_of new (nodes_of new.store.now next) ≡ whole_of old nodes
-  pub less : weight_of new.store.now next + stack_weight new.store.now new.stack.items + 1
-      ≡ weight + stack_weight old.store.now old.stack.items
+  pub within : IsTrue (is_row new.store next)
+  pub whole : whole_of new (nodes_of new.store next) ≡ whole_of old nodes
+  pub less : weight_of new.store next + stack_weight new.store new.stack.items + 1
+      ≡ weight + stack_weight old.store old.stack.items
 
 -- no row of nodes is next: all is written
 pub record Ends (old new : Settling) (nodes : Nodes) : Type 0 where
@@ -158,12 +158,40 @@ pub record Ends (old new : Settling) (nodes : Nodes) : Type 0 where
   pub whole : state_of new ≡ whole_of old nodes
   pub stack : new.stack.items ≡ []
 
+-- another state, and nothing to follow. Cells that nothing comes to any more may be gone
+pub record Writes (old new : Settling) (given : Gathered) : Type 0 where
+  pub sound : Sound new
+  pub store : IsAlike old.store new.store
+  pub state : state_of new ≡ given
+
+-- What stays of the cells
+
+-- the row that is written once what is opened is done with
+abbrev pub row_before : Opened → ℕ
+row_before (opened.Element tag before behind) = before
+row_before (opened.Row before) = before
+
+-- what is opened comes to so many cells at most
+abbrev pub comes_to : ℕ → Opened → Bool
+comes_to count own = nat_le (row_before own) count
+
+-- cells are gone, and the same will be written, where a row is next
+pub record Cuts (old new : Settling) (row : ℕ) : Type 0 where
+  pub sound : Sound new
+  pub store : IsAlike old.store new.store
+  pub within : IsTrue (is_row new.store row)
+  pub whole : whole_of new (nodes_of new.store row) ≡ whole_of old (nodes_of old.store row)
+  pub same : weight_of new.store row + stack_weight new.store new.stack.items
+      ≡ weight_of old.store row + stack_weight old.store old.stack.items
+
 -- What settling is for
 
--- rows of a row of nodes, with what was copied for them
-pub record AreRowsOf (s : Store) (n : ℕ) (made : Settled) : Type 0 where
-  pub short : length s.page.now + (length s.side.items + length made.copied.items) < 2 ^ 32
+-- rows of trees, with what was copied for them
+pub record AreRowsOf (trees : HtmlForest) (made : Settled) : Type 0 where
+  pub short : length made.store.page.now
+      + (length made.store.side.items + length made.copied.items) < 2 ^ 32
   pub few : length made.rows.items < 2 ^ 32
-  pub within : IsTrue (list_all (row_is_within (sizes_with s made.copied.items)) made.rows.items)
-  pub rows : map (row_in s (text_with s made.copied.items)) made.rows.items
-      ≡ rows_of (before (nodes_of s n) no_trees)
+  pub within : IsTrue
+      (list_all (row_is_within (sizes_with made.store made.copied.items)) made.rows.items)
+  pub rows : map (row_in made.store (text_with made.store made.copied.items)) made.rows.items
+      ≡ rows_of trees

@@ -6,7 +6,7 @@ use Rattle.tl_dom_spec.specs.Dispatcher.{token_done}
 use Rattle.tl_html_tokens.specs.Modes.{state_of}
 use Rattle.tl_html_tokens.specs.declared.front.Front.{Front}
 use Rattle.tl_tree.specs.Inner.Builders.{builder_of}
-use Rattle.tl_tree.specs.Sources.{Mark, Reached, Reads, is_mark}
+use Rattle.tl_tree.specs.Sources.{IsNext, Mark, Reached, Reads, bounds_in, is_mark}
 use Rattle.tl_tree.specs.declared.reader.Reader.{Reader}
 use Rattle.tl_tree.specs.declared.source.Bounds.{Bounds}
 
@@ -36,7 +36,19 @@ places_of begin marks = record { start = 0; end = begin } ∷ map bounds_of mark
 pub record IsSourced (begin : Reached) (r : Reader) : Type 0 where
   pub marks : List Mark
   pub read : Reads r.page.now begin (reached_of r marks)
-  pub sources : r.sources.items ≡ places_of begin.at marks
+  pub sources : bounds_in r.sources ≡ places_of begin.at marks
+
+-- a reader took what stood next, with the marks that it had taken before
+pub record IsFurther (begin : ℕ) (marks : List Mark) (r s : Reader) : Type 0 where
+  pub taken : List Mark
+  pub next : IsNext r.page.now (reached_of r marks) (reached_of s taken)
+  pub sources : bounds_in s.sources ≡ places_of begin taken
+
+-- whatever these are
+abbrev pub TakesNext : Reader → Reader → Type 0
+TakesNext r s =
+    (begin : ℕ) (marks : List Mark) →
+    bounds_in r.sources ≡ places_of begin marks → IsFurther begin marks r s
 
 -- the page is read to its end, and these are the places of its marks
 pub record AreSources (page : List ℕ) (begin : Reached) (built : dom.Builder)

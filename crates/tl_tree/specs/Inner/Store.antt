@@ -162,3 +162,11 @@ pub record Grows (s t : Store) : Type 0 where
   pub tags : Begins s.tags.items t.tags.items
   pub doctypes : Begins s.doctypes.items t.doctypes.items
   pub cells : Begins s.cells.items t.cells.items
+
+-- another store, which is the same but for its cells
+pub record IsAlike (s t : Store) : Type 0 where
+  pub page : t.page.now ≡ s.page.now
+  pub side : t.side.items ≡ s.side.items
+  pub attributes : t.attributes ≡ s.attributes
+  pub tags : t.tags.items ≡ s.tags.items
+  pub doctypes : t.doctypes.items ≡ s.doctypes.items

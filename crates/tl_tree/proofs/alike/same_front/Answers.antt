@@ -6,6 +6,7 @@ use Rattle.tl_tree.proofs.AlikeTags.{all-next, any-found}
 use Rattle.tl_tree.specs.Inner.Store.{attribute_of, entries_of}
 use Rattle.tl_tree.specs.declared.entries.AttributeEntry.{AttributeEntry}
 use Rattle.tl_tree.specs.declared.entries.AttributeSpace.TheVariants.{Plain}
+use Rattle.tl_tree.proofs.Looped.{entry-within}
 use Rattle.tl_tree.proofs.alike.same_front.Goals as goal
 
 pub loop-place-preserved : goal.loop-place-preserved
@@ -27,3 +28,15 @@ loop-place-preserved c =
     ap (λ (n : ℕ). list_all test (map (attribute_of s) (take n first))) (add-one i)
     ∙ all-next test (attribute_of s) first i none (omega arith) c.loop-place.invariant
     (any-found (is_same_attribute (attribute_of s (get_or first i none))) (attribute_of s) second i none (omega arith) same)
+
+pub is_same_attribute-requires-clause-one : goal.is_same_attribute-requires-clause-one
+is_same_attribute-requires-clause-one c =
+    let least = c.min-shorter.ensures in
+    let inside = c.loop-place-test.true in
+    entry-within c.args.store.now c.args.own c.attributes-first.result.now c.loop-place.place _ c.attributes-first.ensures (omega arith)
+
+pub is_same_attribute-requires-clause-other : goal.is_same_attribute-requires-clause-other
+is_same_attribute-requires-clause-other c =
+    let least = c.min-shorter.ensures in
+    let inside = c.loop-place-test.true in
+    entry-within c.args.store.now c.args.other c.attributes-second.result.now c.loop-place.place _ c.attributes-second.ensures (omega arith)

@@ -38,3 +38,20 @@ returns-clause-stands c =
     (ap (listed last (nodes_of last c.in_ok-end.end)) (c.as_slice-2.ensures.value ∙ c.reverse.ensures.items)
     ∙ headed-row s c.join.new.self c.add_all.new.store last c.join.ensures.grows c.add_all.ensures.grows c.add.ensures.grows nodes (nodes_of s c.args.late) apart.front.items apart.behind.items c.in-Some.head headed c.in_ok-below.below c.in_ok-front.front c.in_ok-end.end c.in_ok-below.ensures.within c.in_ok-below.ensures.stands (c.in_ok-front.ensures.stands ∙ ap (listed c.join.new.self (nodes_of c.join.new.self 0)) c.as_slice.ensures.value) c.in_ok-end.ensures.stands)
     c.add_all-2.ensures.stands
+
+pub returns-in_err-front-clause-grows : goal.returns-in_err-front-clause-grows
+returns-in_err-front-clause-grows c =
+    grows_trans c.args.store.now c.join.new.self c.add_all.new.store c.join.ensures.grows c.add_all.ensures.grows
+
+pub returns-in_err-end-clause-grows : goal.returns-in_err-end-clause-grows
+returns-in_err-end-clause-grows c =
+    let s = c.args.store.now in
+    let t = c.add_all.new.store in
+    grows_trans s t c.add.new.self (grows_trans s c.join.new.self t c.join.ensures.grows c.add_all.ensures.grows) c.add.ensures.grows
+
+pub returns-clause-grows : goal.returns-clause-grows
+returns-clause-grows c =
+    let s = c.args.store.now in
+    let t = c.add_all.new.store in
+    let u = c.add.new.self in
+    grows_trans s u c.add_all-2.new.store (grows_trans s t u (grows_trans s c.join.new.self t c.join.ensures.grows c.add_all.ensures.grows) c.add.ensures.grows) c.add_all-2.ensures.grows

@@ -3,8 +3,14 @@ use Rattle.std.specs.Char.{to_ascii_lowercase}
 use Rattle.std.specs.List.{list_any}
 use Rattle.std.specs.Str.{bytes_eq}
 use Rattle.tl_dom_spec.specs.Quirks.{begins_with_one, transitional_beginnings}
-use Rattle.tl_tree.proofs.Quirky.{by-beginning, by-system}
+use Rattle.tl_tree.proofs.Quirky.{by-beginning, by-id, by-system}
 use Rattle.tl_tree.proofs.quirks.is_quirky_public.Goals as goal
+
+pub returns-then-is_one_lowered : goal.returns-then-is_one_lowered
+returns-then-is_one_lowered c =
+    let id : List ℕ = map to_ascii_lowercase c.args.id.now in
+    by-id c.args.has_system id
+    (sym (c.is_one_lowered.ensures ∙ ap (list_any (bytes_eq id)) c.quirky_ids.ensures) ∙ c.if-is_one_lowered.true)
 
 pub returns-then-begins_with_one : goal.returns-then-begins_with_one
 returns-then-begins_with_one c =

@@ -2,13 +2,14 @@ use Rattle.std.proofs.Common.{IsTrue, List, ap, is_ok, refl, subst, sym, ℕ, �
 use Rattle.std.proofs.lemmas.Bool.{and_from}
 use Rattle.std.specs.List.{list_all}
 use Rattle.tl_html_parts.specs.Parts.{name_of, value_of}
-use Rattle.tl_html_parts.specs.Places.{part_in}
+use Rattle.tl_html_parts.specs.Places.{IsPart, part_in}
 use Rattle.tl_tree.proofs.Listed.{all-pushed}
 use Rattle.tl_tree.proofs.SaidTags.{attributes-kept, key-added, key-repeated, keys-added, keys-has, keys-same, put-later, span-kept}
 use Rattle.tl_tree.specs.Inner.Said.{AreKeysBehind, has_key, keys_in, with_key}
 use Rattle.tl_tree.specs.Inner.Store.{bytes_of, is_attribute, is_span}
 use Rattle.tl_tree.specs.declared.entries.AttributeEntry.{AttributeEntry}
 use Rattle.tl_tree.specs.declared.entries.AttributeSpace.TheVariants.{Plain}
+use Rattle.tl_tree.proofs.Grown.{grows_trans}
 use Rattle.tl_tree.proofs.said_attributes.put_attribute.Goals as goal
 
 pub is_repeated-requires-clause-keys : goal.is_repeated-requires-clause-keys
@@ -83,3 +84,25 @@ returns-clause-within c =
     all-pushed (is_attribute u) (is_ok c.push.result) xs c.push.new.self.items own c.push.ensures.items
     (attributes-kept t u grows xs (attributes-kept c.args.store.now t c.put_name.ensures.grows xs c.requires.entries))
     (and_from (is_span u own.key) (is_span u own.value) (span-kept t u grows own.key c.in_ok-key.ensures.within) c.in_ok-value.ensures.within)
+
+pub put_name-requires : goal.put_name-requires
+put_name-requires c = c.requires.key
+
+pub is_repeated-requires-clause-key : goal.is_repeated-requires-clause-key
+is_repeated-requires-clause-key c = c.in_ok-key.ensures.within
+
+pub put_value-requires : goal.put_value-requires
+put_value-requires c =
+    subst (λ (page : List ℕ). IsPart value_of page c.args.attribute.value) (sym c.put_name.ensures.grows.page) c.requires.value
+
+pub returns-in_err-value-clause-grows : goal.returns-in_err-value-clause-grows
+returns-in_err-value-clause-grows c =
+    grows_trans c.args.store.now c.put_name.new.store c.put_value.new.store c.put_name.ensures.grows c.put_value.ensures.grows
+
+pub returns-in_err-push-clause-grows : goal.returns-in_err-push-clause-grows
+returns-in_err-push-clause-grows c =
+    grows_trans c.args.store.now c.put_name.new.store c.put_value.new.store c.put_name.ensures.grows c.put_value.ensures.grows
+
+pub returns-clause-grows : goal.returns-clause-grows
+returns-clause-grows c =
+    grows_trans c.args.store.now c.put_name.new.store c.put_value.new.store c.put_name.ensures.grows c.put_value.ensures.grows

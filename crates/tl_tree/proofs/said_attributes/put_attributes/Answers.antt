@@ -1,5 +1,5 @@
-use Rattle.std.proofs.Common.{List, ap, ap₂, get_or, length, map, subst, sym, take, ℕ, ◌+◌, ◌<◌, ◌∙◌, ◌≡◌}
-use Rattle.std.proofs.lemmas.List.{take_more}
+use Rattle.std.proofs.Common.{List, ap, ap₂, arith, get_or, length, map, subst, sym, take, ℕ, ◌+◌, ◌<◌, ◌∙◌, ◌≡◌}
+use Rattle.std.proofs.lemmas.List.{take_all, take_more}
 use Rattle.tl_dom_spec.specs.Tags as dom
 use Rattle.tl_html_parts.specs.Parts.{attributes_of, name_of, value_of}
 use Rattle.tl_html_parts.specs.Places.{IsPart, pairs_in, part_in}
@@ -41,3 +41,27 @@ loop-attribute-preserved c =
       within = c.in_ok-put_attribute.ensures.within;
       grows = grows_trans c.args.store.now c.loop-attribute.store c.put_attribute.new.store own.grows c.put_attribute.ensures.grows;
     }
+
+pub put_attribute-requires-clause-keys : goal.put_attribute-requires-clause-keys
+put_attribute-requires-clause-keys c = c.loop-attribute.invariant.keys
+
+pub put_attribute-requires-clause-entries : goal.put_attribute-requires-clause-entries
+put_attribute-requires-clause-entries c = c.loop-attribute.invariant.within
+
+pub returns-in_err-put_attribute-clause-grows : goal.returns-in_err-put_attribute-clause-grows
+returns-in_err-put_attribute-clause-grows c =
+    grows_trans c.args.store.now c.loop-attribute.store c.put_attribute.new.store c.loop-attribute.invariant.grows c.put_attribute.ensures.grows
+
+pub returns-clause-read : goal.returns-clause-read
+returns-clause-read c =
+    let page = c.args.store.now.page.now in
+    let end = c.loop-attribute-test.false in
+    c.loop-attribute.invariant.stands
+    ∙ ap (λ (xs : List AttributePlace). map dom.plain_attribute (attributes_of (pairs_in page xs)))
+    (take_all c.loop-attribute.attribute-index c.args.attributes.now (omega arith))
+
+pub returns-clause-within : goal.returns-clause-within
+returns-clause-within c = c.loop-attribute.invariant.within
+
+pub returns-clause-grows : goal.returns-clause-grows
+returns-clause-grows c = c.loop-attribute.invariant.grows

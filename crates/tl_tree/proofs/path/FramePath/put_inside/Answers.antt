@@ -6,6 +6,7 @@ use Rattle.tl_tree.proofs.Written.{all-at, put-inside, ready-folded}
 use Rattle.tl_tree.specs.Inner.Frames.{is_frame}
 use Rattle.tl_tree.specs.Inner.Store.{node_of, nodes_of}
 use Rattle.tl_tree.specs.declared.frame.Frame.{Frame}
+use Rattle.tl_tree.proofs.FrameParts.{frame-there, grows-on, row-of-children}
 use Rattle.tl_tree.proofs.path.FramePath.put_inside.Goals as goal
 
 pub returns-clause-ok : goal.returns-clause-ok
@@ -22,3 +23,19 @@ returns-clause-ok c =
     (all-at (is_frame p) p.frames.items i f f is c.requires.index p.within) refl
     (ready-folded p.store f nodes (ap (λ (it : Frame). it.late) (sym same) ∙ late))
     (c.in_ok-children.ensures.stands ∙ ap (λ (it : Frame). joined (nodes_of p.store it.children) nodes) same)
+
+pub add-requires-clause-before : goal.add-requires-clause-before
+add-requires-clause-before c =
+    let p = c.args.self.now in
+    let f = c.index-before.result.now in
+    row-of-children p.store f (frame-there p c.args.index f c.index-before.ensures c.requires.index)
+
+pub add-requires-clause-node : goal.add-requires-clause-node
+add-requires-clause-node c = c.requires.node
+
+pub returns-clause-next : goal.returns-clause-next
+returns-clause-next c = c.write.ensures.next ∙ c.add.ensures.next
+
+pub returns-clause-grows : goal.returns-clause-grows
+returns-clause-grows c =
+    grows-on c.args.self.now.store c.add.new.self.store c.write.new.self.store c.add.ensures.grows c.write.ensures.store

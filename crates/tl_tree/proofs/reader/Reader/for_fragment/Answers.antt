@@ -1,5 +1,6 @@
-use Rattle.std.proofs.Common.{arith, refl}
-use Rattle.tl_dom_spec.specs.HtmlTree.{context_state, fragment_start}
+use Rattle.std.proofs.Common.{ap, arith, refl}
+use Rattle.tl_dom_spec.specs.Builder.{Builder}
+use Rattle.tl_dom_spec.specs.HtmlTree.{context_state, fragment_start, is_little}
 use Rattle.tl_tree.proofs.ReadOn.{begins}
 use Rattle.tl_tree.specs.Contexts.{context_of, tag_in}
 use Rattle.tl_tree.specs.Inner.Builders.{builder_of, flags_of, token_of}
@@ -21,6 +22,7 @@ returns c =
       left = begins (fragment_start flags (context_of c.args.context)) (builder_of c.in_ok-builder.builder) (context_state flags (tag_in c.args.context)) c.mode.result text text 0
           c.in_ok-builder.ensures.start c.mode.ensures refl;
       sources = begun (fragment_begin flags (context_of c.args.context)) _ refl c.mode.ensures c.in_ok-builder.ensures.start refl
-          (first-place 0 0 0 _ _ c.in_ok-push_source.ensures c.new-sources.ensures.items refl);
+          (first-place 0 0 0 _ _ c.in_ok-push_source.ensures c.in_ok-sources.ensures refl);
+      little = ap (λ (b : Builder). is_little b.excess) c.in_ok-builder.ensures.start;
       page = refl;
     }

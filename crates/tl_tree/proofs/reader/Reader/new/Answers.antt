@@ -1,5 +1,6 @@
-use Rattle.std.proofs.Common.{refl}
-use Rattle.tl_dom_spec.specs.HtmlTree.{page_start}
+use Rattle.std.proofs.Common.{ap, refl}
+use Rattle.tl_dom_spec.specs.Builder.{Builder}
+use Rattle.tl_dom_spec.specs.HtmlTree.{is_little, page_start}
 use Rattle.tl_html_spec.specs.HtmlTokenizer.{data_state, without_mark}
 use Rattle.tl_html_tokens.specs.Tokens.{mark_len}
 use Rattle.tl_html_tokens.specs.declared.mode.Mode.TheVariants as mode
@@ -22,6 +23,7 @@ returns c =
       left = begins (page_start (flags_of c.args.flags)) (builder_of c.in_ok-builder.builder) data_state mode.Data (without_mark page) page c.mark_len-at.result
           c.in_ok-builder.ensures.start refl c.mark_len-at.ensures.rest;
       sources = begun (page_begin (flags_of c.args.flags) page) _ c.mark_len-at.ensures.bytes refl c.in_ok-builder.ensures.start refl
-          (first-place 0 c.mark_len-at.result (mark_len page) _ _ c.in_ok-push_source.ensures c.in_ok-sources.ensures.items c.mark_len-at.ensures.bytes);
+          (first-place 0 c.mark_len-at.result (mark_len page) _ _ c.in_ok-push_source.ensures c.in_ok-sources.ensures c.mark_len-at.ensures.bytes);
+      little = ap (λ (b : Builder). is_little b.excess) c.in_ok-builder.ensures.start;
       page = refl;
     }

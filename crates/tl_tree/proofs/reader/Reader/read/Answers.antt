@@ -1,4 +1,4 @@
-use Rattle.std.proofs.Common.{Err, Ok, OnOk, Result, ap, refl, sym, true, ◌∙◌, ◌≡◌}
+use Rattle.std.proofs.Common.{Err, Ok, OnOk, Result, ap, refl, subst, sym, true, ◌∙◌, ◌≡◌}
 use Rattle.tl_dom_spec.specs.Builder.{Builder, end_of_file}
 use Rattle.tl_dom_spec.specs.Dispatcher.{token_done}
 use Rattle.tl_dom_spec.specs.HtmlTree.{is_little}
@@ -6,7 +6,8 @@ use Rattle.tl_tree.proofs.ReadOn.{whole}
 use Rattle.tl_tree.specs.Inner.Builders.{Said, builder_of, token_of}
 use Rattle.tl_tree.specs.Inner.Reading.{left_of}
 use Rattle.tl_tree.proofs.reader.Reader.read.Goals as goal
-use Rattle.tl_tree.proofs.Sourced.{end-sourced}
+use Rattle.tl_tree.proofs.Sourced.{end-sourced, out-at-end}
+use Rattle.tl_tree.specs.Sources.{IsOutOfProportionAt}
 
 on-any : {T E P : Type 0} (r : Result T E) → P → OnOk r P
 on-any (Ok x) p = p
@@ -43,3 +44,11 @@ returns-clause-sources c =
     (λ begin s.
     end-sourced c.args.self.now.page.now begin c.read_on.new.self (builder_of c.take_token.new.self) _ c.read_on.ensures.page refl
     c.in_ok-read_on.ensures.end c.in_ok-take_token.ensures.ok (c.in_ok-read_on.ensures.sources begin s))
+
+pub returns-clause-place : goal.returns-clause-place
+returns-clause-place c at is begin s little =
+    let r = c.read_on.new.self in
+    let page = c.args.self.now.page.now in
+    subst (IsOutOfProportionAt page begin) (sym (c.weigh.ensures.place at is))
+    (out-at-end begin page r (builder_of c.take_token.new.self) c.read_on.ensures.page c.in_ok-read_on.ensures.end c.in_ok-take_token.ensures.ok
+    (c.in_ok-read_on.ensures.little little) (c.weigh.ensures.large at is) (c.in_ok-read_on.ensures.sources begin s))

@@ -35,9 +35,9 @@ returns-clause-ok c =
     c.in_ok-take_run.ensures.ok
 
 pub returns-clause-sources : goal.returns-clause-sources
-returns-clause-sources c begin s =
+returns-clause-sources c begin marks kept =
     let b1 = c.add_bytes.new.self in
-    section-sourced begin c.args.self.now _ (builder_of b1) c.args.section (bytes_of b1.path.store c.in_ok-span.span)
+    section-sourced begin marks c.args.self.now _ (builder_of b1) c.args.section (bytes_of b1.path.store c.in_ok-span.span)
     c.requires.section c.requires.foreign c.requires.mode c.add_bytes.ensures.ok
     (c.in_ok-span.ensures.stands ∙ (c.as_bytes.ensures ∙ c.in_ok-text.ensures))
-    c.in_ok-take_run.ensures.ok refl refl refl refl s
+    c.in_ok-take_run.ensures.ok refl refl refl kept

@@ -1,4 +1,4 @@
-use Rattle.std.proofs.Common.{Bool, List, ap, false, inl, inr, refl, subst, sym, true, ℕ, ◌∙◌, ◌≡◌}
+use Rattle.std.proofs.Common.{Bool, List, ap, arith, false, inl, inr, length, refl, subst, sym, true, ℕ, ◌∙◌, ◌≡◌}
 use Rattle.std.proofs.lemmas.Bool.{cases_Bool}
 use Rattle.tl_dom_spec.specs.Builder.{Builder}
 use Rattle.tl_dom_spec.specs.Driver.{builder}
@@ -23,6 +23,17 @@ same-state b kind end m n plain = elim (cases_Bool (is_start kind)) [
   | inl y ↦ rw y refl
   | inr e ↦ ap (λ (x : Mode). state_set builder b (record { kind = kind; end = end; mode = x })) (sym (plain e))
 ]
+
+pub keep_source-requires-clause-order : goal.keep_source-requires-clause-order
+keep_source-requires-clause-order c = let order = c.requires.read.front.front.order in omega (arith, order)
+
+pub keep_source-requires-clause-short : goal.keep_source-requires-clause-short
+keep_source-requires-clause-short c =
+    let r = c.args.self.now in
+    let short = r.builder.path.store.short in
+    let same = ap length r.same in
+    let within = c.requires.read.front.front.within in
+    omega (arith, short, same, within)
 
 pub invariant_of-self-in-Break-branch-2 : goal.invariant_of-self-in-Break-branch-2
 unfolding token_of
@@ -52,16 +63,16 @@ returns-clause-ok c =
     (c.mode_behind-self.ensures ∙ same-state b' c.args.tag.kind c.args.tag.end modes.Data f.mode f.plain)
 
 pub returns-clause-sources : goal.returns-clause-sources
-returns-clause-sources c begin s =
+returns-clause-sources c begin marks kept =
     let r = c.args.self.now in
     let f : IsMarkupFront r.page.now r.at c.args.tag.kind c.args.tag.end = c.requires.read.front in
     let front : Front = record { kind = c.args.tag.kind; end = c.args.tag.end; mode = f.mode } in
     let b' = builder_of c.take_tag.new.self in
-    front-sourced begin r _ front
+    front-sourced begin marks r _ front
     (subst (λ (m : Mode). IsFront r.page.now r.at m front) (sym c.requires.mode) f.front) c.requires.open
     (λ emits told.
     c.in_ok-take_tag.ensures.ok emits
     (subst (λ (page : List ℕ). AreEmits modes.Data (piece_at page r.at c.args.tag.end) c.args.tag.kind emits) (sym r.same)
     (subst (λ (m : Mode). AreEmits m (piece_at r.page.now r.at c.args.tag.end) c.args.tag.kind emits) c.requires.mode told)))
     (c.mode_behind-self.ensures ∙ same-state b' c.args.tag.kind c.args.tag.end modes.Data f.mode f.plain)
-    refl refl c.in_ok-keep_source.ensures s
+    refl c.in_ok-keep_source.ensures kept

@@ -15,7 +15,7 @@ returns c =
     let t = c.in_ok-flush.ensures in
     let rows = flushed (state_of old) in
     let count : c.written.result ≡ length rows = c.written.ensures ∙ ap (λ (g : Gathered). length g.rows) t.state in
-    let node : held_in mid.store.now (text_with mid.store.now mid.copied.items) c.args.held ≡ held_in old.store.now (text_of old.store.now) c.args.held =
-    ap (λ s. held_in s.now (text_with s.now mid.copied.items) c.args.held) t.store ∙ held-same old.store.now mid.copied.items c.args.held c.requires.within in
-    on_ok_weaker c.push.result (λ p. turns-push old mid c.push.new.self rows (with_row rows (held_in old.store.now (text_of old.store.now) c.args.held)) c.args.held c.written.result t p
-    (ap (λ v. rows ++ flat v c.written.result ∷ []) node ∙ ap (λ n. rows ++ flat (held_in old.store.now (text_of old.store.now) c.args.held) n ∷ []) count)) c.push.ensures
+    let node : held_in mid.store (text_with mid.store mid.copied.items) c.args.held ≡ held_in old.store (text_of old.store) c.args.held =
+    ap (λ s. held_in s (text_with s mid.copied.items) c.args.held) t.store ∙ held-same old.store mid.copied.items c.args.held c.requires.within in
+    on_ok_weaker c.push.result (λ p. turns-push old mid c.push.new.self rows (with_row rows (held_in old.store (text_of old.store) c.args.held)) c.args.held c.written.result t p
+    (ap (λ v. rows ++ flat v c.written.result ∷ []) node ∙ ap (λ n. rows ++ flat (held_in old.store (text_of old.store) c.args.held) n ∷ []) count)) c.push.ensures

@@ -8,7 +8,7 @@ use Rattle.tl_tree.proofs.settling.Settling.add_piece.Goals as goal
 
 pub returns-in-Some-beside : goal.returns-in-Some-beside
 returns-in-Some-beside c =
-    let s = c.args.self.now.store.now in
+    let s = c.args.self.now.store in
     let was = c.in-Some.ensures.items in
     let is = c.in_ok-push-2.ensures.items in
     let pieces = c.pop.new.self.items in
@@ -29,7 +29,7 @@ returns-in-Some-beside c =
 
 pub returns : goal.returns
 returns c =
-    let s = c.args.self.now.store.now in
+    let s = c.args.self.now.store in
     let was = c.in-Some.ensures.items in
     let is = c.in_ok-push-3.ensures.items in
     let last = c.in_ok-push-4.ensures.items in

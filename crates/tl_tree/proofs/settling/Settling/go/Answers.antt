@@ -13,7 +13,7 @@ pub returns-then-row-eq0 : goal.returns-then-row-eq0
 returns-then-row-eq0 c =
     let old = c.args.self.now in
     let new = c.resume.new.self in
-    let s = old.store.now in
+    let s = old.store in
     let nodes = ap (nodes_of s) c.if-row-eq0.true ∙ nodes-none s in
     let weight = ap (weight_of s) c.if-row-eq0.true ∙ weight-none s in
     subst (λ (v : Nodes). IfOk c.resume.result (λ next. MatchOption next (Ends old new v) (Goes old new v (weight_of s c.args.row)))) (sym nodes)
@@ -21,17 +21,17 @@ returns-then-row-eq0 c =
 
 pub step-requires-clause-before : goal.step-requires-clause-before
 step-requires-clause-before c =
-    let s = c.args.self.now.store.now in
+    let s = c.args.self.now.store in
     (cell-ranges s _ c.index-cell.result.now (cell-got s c.args.row c.index-cell.result.now c.if-row-eq0.false c.requires.within c.index-cell.ensures)).0
 
 pub step-requires-clause-node : goal.step-requires-clause-node
 step-requires-clause-node c =
-    let s = c.args.self.now.store.now in
+    let s = c.args.self.now.store in
     (cell-ranges s _ c.index-cell.result.now (cell-got s c.args.row c.index-cell.result.now c.if-row-eq0.false c.requires.within c.index-cell.ensures)).1
 
 pub returns : goal.returns
 returns c =
-    let s = c.args.self.now.store.now in
+    let s = c.args.self.now.store in
     let cell = c.index-cell.result.now in
     let got = cell-got s c.args.row cell c.if-row-eq0.false c.requires.within c.index-cell.ensures in
     goes-as c.args.self.now c.step.new.self _ _ _ _ _ (row-is s c.args.row cell c.if-row-eq0.false got) (weight-is s c.args.row cell c.if-row-eq0.false got) c.in_ok-step.ensures

@@ -12,10 +12,10 @@ returns c =
     let old = c.args.self.now in
     let mid = c.flush.new.self in
     let t = c.in_ok-flush.ensures in
-    let s = mid.store.now in
+    let s = mid.store in
     let own = opened.Element c.args.tag c.args.before c.written-behind.result in
     let within : IsTrue (opened_is_within s own) =
-    subst (λ v. IsTrue (opened_is_within v.now own)) (sym t.store) (and_from (is_tag_number old.store.now c.args.tag) (is_row old.store.now c.args.before) c.requires.tag c.requires.before) in
+    subst (λ v. IsTrue (opened_is_within v own)) (sym t.store) (and_from (is_tag_number old.store c.args.tag) (is_row old.store c.args.before) c.requires.tag c.requires.before) in
     goes-open old mid _ c.args.tag c.args.before c.args.below c.written-behind.result
     (record {
       short = t.sound.short;

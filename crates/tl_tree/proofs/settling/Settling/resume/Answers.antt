@@ -10,7 +10,7 @@ use Rattle.tl_tree.proofs.settling.Settling.resume.Goals as goal
 pub returns-in-Some-Row : goal.returns-in-Some-Row
 returns-in-Some-Row c =
     let old = c.args.self.now in
-    let s = old.store.now in
+    let s = old.store in
     let was : old.stack.items ≡ c.pop.new.self.items ++ opened.Row c.in-Some-Row.before ∷ [] = c.in-Some-Row.ensures.items ∙ ap (λ v. c.pop.new.self.items ++ v ∷ []) c.in-Some-Row.field-0-is in
     goes-row old _ c.in-Some-Row.before
     (record {
@@ -26,7 +26,7 @@ returns-in-Some-Row c =
 pub returns-in_ok-close-in-Some-Element : goal.returns-in_ok-close-in-Some-Element
 returns-in_ok-close-in-Some-Element c =
     let old = c.args.self.now in
-    let s = old.store.now in
+    let s = old.store in
     let own = opened.Element c.in-Some-Element.tag c.in-Some-Element.before c.in-Some-Element.behind in
     let was : old.stack.items ≡ c.pop.new.self.items ++ own ∷ [] = c.in-Some-Element.ensures.items ∙ ap (λ v. c.pop.new.self.items ++ v ∷ []) c.in-Some-Element.field-0-is in
     goes-close old (record old { stack = c.pop.new.self }) c.close.new.self c.in-Some-Element.tag c.in-Some-Element.before c.in-Some-Element.behind

@@ -14,7 +14,7 @@ pub returns-in-Element : goal.returns-in-Element
 unfolding node_of nodes_of
 returns-in-Element c =
     let old = c.args.self.now in
-    let s = old.store.now in
+    let s = old.store in
     IfOk-weaker c.open.result _ _ (λ next g. goes-as old c.open.new.self _ _ _ _ next
     (ap (λ v. joined (nodes_of s c.args.cell.before) (node_of s v)) (sym c.in-Element.is))
     (ap (λ v. 1 + weight_of s c.args.cell.before + held_weight s v) (sym c.in-Element.is)) g) c.open.ensures
@@ -23,7 +23,7 @@ pub returns-in-Joined : goal.returns-in-Joined
 unfolding node_of nodes_of
 returns-in-Joined c =
     let old = c.args.self.now in
-    let s = old.store.now in
+    let s = old.store in
     let second = c.in-Joined.second in
     let before = c.args.cell.before in
     goes-as old _ _ _ _ _ second
@@ -44,7 +44,7 @@ pub returns-in_ok-add_piece-in-Text : goal.returns-in_ok-add_piece-in-Text
 unfolding node_of
 returns-in_ok-add_piece-in-Text c =
     let old = c.args.self.now in
-    let s = old.store.now in
+    let s = old.store in
     goes-before old _ c.args.cell.before c.args.cell.node (with_piece (marked c.in-Text.piece.source (bytes_of s c.in-Text.piece.span)) (state_of old)) c.requires.before c.in_ok-add_piece-in-Text.ensures
     (ap (λ v. gathered (node_of s v) (state_of old)) (sym c.in-Text.is))
     (ap (held_weight s) c.in-Text.is)
@@ -53,7 +53,7 @@ pub returns-in_ok-add-in-Comment : goal.returns-in_ok-add-in-Comment
 unfolding node_of bytes_of
 returns-in_ok-add-in-Comment c =
     let old = c.args.self.now in
-    let s = old.store.now in
+    let s = old.store in
     goes-before old _ c.args.cell.before c.args.cell.node _ c.requires.before c.in_ok-add-in-Comment.ensures
     (ap (λ v. gathered (node_of s v) (state_of old)) (sym c.in-Comment.is))
     (ap (held_weight s) c.in-Comment.is)
@@ -62,7 +62,7 @@ pub returns-in_ok-add-in-Doctype : goal.returns-in_ok-add-in-Doctype
 unfolding node_of
 returns-in_ok-add-in-Doctype c =
     let old = c.args.self.now in
-    let s = old.store.now in
+    let s = old.store in
     goes-before old _ c.args.cell.before c.args.cell.node _ c.requires.before c.in_ok-add-in-Doctype.ensures
     (ap (λ v. gathered (node_of s v) (state_of old)) (sym c.in-Doctype.is))
     (ap (held_weight s) c.in-Doctype.is)

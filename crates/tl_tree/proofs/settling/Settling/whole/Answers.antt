@@ -10,7 +10,7 @@ use Rattle.tl_tree.proofs.settling.Settling.whole.Goals as goal
 pub returns-then-len-eq1 : goal.returns-then-len-eq1
 returns-then-len-eq1 c =
     let g = c.args.self.now in
-    let s = g.store.now in
+    let s = g.store in
     let piece = c.index.result.now in
     let one = one-piece g.pieces.items piece (let h = c.len.ensures in let k = c.if-len-eq1.true in omega (arith, h, k)) c.index.ensures in
     let within = (and_parts (is_span s piece) true (subst (λ v. IsTrue (list_all (is_span s) v)) one c.requires.sound.pieces)).0 in
@@ -28,7 +28,7 @@ returns-then-len-eq1 c =
 pub returns : goal.returns
 returns c =
     let g = c.args.self.now in
-    let s = g.store.now in
+    let s = g.store in
     let text = text_of_pieces s g.pieces.items in
     let all : c.copy.new.copied.items ≡ g.copied.items ++ text = c.in_ok-copy.ensures.copied ∙ ap (λ v. g.copied.items ++ text_of_pieces s v) c.as_slice.ensures.value in
     let many = ap length all ∙ length-append g.copied.items text in

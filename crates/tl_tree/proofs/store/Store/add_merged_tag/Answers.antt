@@ -1,11 +1,11 @@
 use Rattle.std.proofs.Common.{IsTrue, List, [], ap, arith, length, refl, subst, sym, vec_len, ◌<◌, ◌∙◌, ◌≡◌, ℕ}
 use Rattle.std.proofs.lemmas.Bool.{eqb-true, ltb-true}
 use Rattle.std.proofs.lemmas.List.{nil_from_length}
-use Rattle.std.proofs.lemmas.Result.{IfOk-weaker}
+use Rattle.std.proofs.lemmas.Result.{IfOk-from_err, IfOk-weaker}
 use Rattle.std.specs.List.{list_all}
 use Rattle.tl_dom_spec.specs.Builder.{with_more}
 use Rattle.tl_dom_spec.specs.Tags.{Tag}
-use Rattle.tl_tree.proofs.Grown.{grows_refl, tag-at-grown, tag-grown}
+use Rattle.tl_tree.proofs.Grown.{grows_refl, grows_trans, tag-at-grown, tag-grown}
 use Rattle.tl_tree.proofs.Merged.{longer-within, merged-tag, missing-within, none-missing, tag-kept}
 use Rattle.tl_tree.specs.Inner.Merging.{missing}
 use Rattle.tl_tree.specs.Inner.Store.{Grows, is_attribute, is_tag, tag_at, tag_of}
@@ -83,3 +83,40 @@ returns-clause-space c =
 pub returns-clause-name : goal.returns-clause-name
 returns-clause-name c =
     IfOk-weaker c.add_tag.result _ _ (λ number is. ap (λ (t : Tag). t.name) is) (returns-clause-stands c)
+
+pub returns-in_err-add_attributes-clause-grows : goal.returns-in_err-add_attributes-clause-grows
+returns-in_err-add_attributes-clause-grows c =
+    grows_trans c.args.self.now c.put_last.new.store c.add_attributes.new.store c.put_last.ensures.grows c.add_attributes.ensures.grows
+
+pub returns-clause-grows : goal.returns-clause-grows
+returns-clause-grows c =
+    let s = c.args.self.now in
+    let u = c.add_attributes.new.store in
+    grows_trans s u c.add_tag.new.self (grows_trans s c.put_last.new.store u c.put_last.ensures.grows c.add_attributes.ensures.grows) c.add_tag.ensures.grows
+
+pub returns-in_err-last-clause-stands : goal.returns-in_err-last-clause-stands
+returns-in_err-last-clause-stands c = IfOk-from_err c.from_residual.result _ c.from_residual.ensures.0
+
+pub returns-in_err-last-clause-space : goal.returns-in_err-last-clause-space
+returns-in_err-last-clause-space c = IfOk-from_err c.from_residual.result _ c.from_residual.ensures.0
+
+pub returns-in_err-last-clause-name : goal.returns-in_err-last-clause-name
+returns-in_err-last-clause-name c = IfOk-from_err c.from_residual.result _ c.from_residual.ensures.0
+
+pub returns-in_err-more-clause-stands : goal.returns-in_err-more-clause-stands
+returns-in_err-more-clause-stands c = IfOk-from_err c.from_residual-in_err-more.result _ c.from_residual-in_err-more.ensures.0
+
+pub returns-in_err-more-clause-space : goal.returns-in_err-more-clause-space
+returns-in_err-more-clause-space c = IfOk-from_err c.from_residual-in_err-more.result _ c.from_residual-in_err-more.ensures.0
+
+pub returns-in_err-more-clause-name : goal.returns-in_err-more-clause-name
+returns-in_err-more-clause-name c = IfOk-from_err c.from_residual-in_err-more.result _ c.from_residual-in_err-more.ensures.0
+
+pub returns-in_err-add_attributes-clause-stands : goal.returns-in_err-add_attributes-clause-stands
+returns-in_err-add_attributes-clause-stands c = IfOk-from_err c.from_residual-in_err-add_attributes.result _ c.from_residual-in_err-add_attributes.ensures.0
+
+pub returns-in_err-add_attributes-clause-space : goal.returns-in_err-add_attributes-clause-space
+returns-in_err-add_attributes-clause-space c = IfOk-from_err c.from_residual-in_err-add_attributes.result _ c.from_residual-in_err-add_attributes.ensures.0
+
+pub returns-in_err-add_attributes-clause-name : goal.returns-in_err-add_attributes-clause-name
+returns-in_err-add_attributes-clause-name c = IfOk-from_err c.from_residual-in_err-add_attributes.result _ c.from_residual-in_err-add_attributes.ensures.0

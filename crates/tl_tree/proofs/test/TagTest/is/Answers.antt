@@ -40,8 +40,8 @@ pub returns-then-is_html : goal.returns-then-is_html
 unfolding tag_of
 returns-then-is_html c =
     rw c.in-Named.is
-    (in-space c.is_html.result _ c.eq.result _ c.is_html.ensures c.if-is_html.true
-    (c.eq.ensures ∙ ap (bytes_eq c.in-Named.own.now) c.bytes.ensures))
+    (in-space c.is_html.result _ c.are_same.result _ c.is_html.ensures c.if-is_html.true
+    (c.are_same.ensures ∙ ap (bytes_eq c.in-Named.own.now) c.bytes.ensures))
 
 pub returns-else-is_html : goal.returns-else-is_html
 unfolding tag_of

@@ -6,7 +6,7 @@ use Rattle.tl_tree.proofs.tree.Tree.read.Goals as goal
 use Rattle.tl_tree.proofs.Sourced.{page-sourced}
 use Rattle.tl_tree.specs.Inner.Builders.{builder_of, flags_of}
 use Rattle.tl_tree.specs.Inner.Sourced.{AreSources}
-use Rattle.tl_tree.specs.Sources.{page_begin}
+use Rattle.tl_tree.specs.Sources.{bounds_in, page_begin}
 
 pub returns-clause-tree : goal.returns-clause-tree
 returns-clause-tree c =
@@ -20,5 +20,5 @@ returns-clause-sources c =
     let reader = c.read.new.self in
     page-sourced flags page c.in_ok-tree.tree (builder_of reader.builder) _ c.in_ok-tree.ensures.tree c.in_ok-tree.ensures.sources
     (ap length (c.in_ok-tree.ensures.page ∙ (reader.same ∙ (c.read.ensures.page ∙ c.in_ok-reader.ensures.page))))
-    (subst (λ (own : List ℕ). AreSources own (page_begin flags page) (builder_of reader.builder) reader.sources.items) c.in_ok-reader.ensures.page
+    (subst (λ (own : List ℕ). AreSources own (page_begin flags page) (builder_of reader.builder) (bounds_in reader.sources)) c.in_ok-reader.ensures.page
     (c.in_ok-read.ensures.sources (page_begin flags page) c.in_ok-reader.ensures.sources))

@@ -1,6 +1,6 @@
 use Rattle.tl_tree.proofs.Entering.{known-entered, next-new}
 use Rattle.tl_tree.specs.Inner.Entered.{entered}
-use Rattle.tl_tree.proofs.path.FramePath.enter_frames.Goals as goal
+use Rattle.tl_tree.proofs.path.FramePath.enter_all.Goals as goal
 
 pub enter-requires : goal.enter-requires
 enter-requires c =

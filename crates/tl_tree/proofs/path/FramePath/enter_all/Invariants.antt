@@ -1,6 +1,6 @@
 use Rattle.std.proofs.Common.{◌≡◌, ◌-◌, length}
 use Rattle.tl_tree.specs.Inner.Entered.{entered}
-use Rattle.tl_tree.proofs.path.FramePath.enter_frames.Given as goal
+use Rattle.tl_tree.proofs.path.FramePath.enter_all.Given as goal
 
 abbrev pub invariant-loop-self : goal.invariant-loop-self
 invariant-loop-self l = record {
