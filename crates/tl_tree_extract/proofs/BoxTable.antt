@@ -1,15 +1,17 @@
 -- What is none of the names of elements has the box of none of them.
-use Rattle.std.proofs.Common.{Bool, List, [], ap, arith, codes, false, get_or, if◌then◌else◌, inl, inr, nat_eq, refl, sym, true, ℕ, ◌++◌, ◌∙◌, ◌≡◌, ◌||◌, ◌∷◌}
+use Rattle.std.proofs.Common.{Bool, List, None, Option, Some, [], ap, arith, codes, false, get_or, if◌then◌else◌, inl, inr, nat_eq, refl, sym, true, ℕ, ◌++◌, ◌∙◌, ◌≡◌, ◌||◌, ◌∷◌}
 use Rattle.std.proofs.lemmas.Bool.{and_parts, cases_Bool, cond-false, eqb-true}
 use Rattle.std.proofs.lemmas.Slice.Eq.{bytes_eq-Decides}
 use Rattle.std.specs.List.{list_all}
+use Rattle.std.specs.Option.{option_map, unwrap_or}
 use Rattle.std.specs.Prelude.{map, replicate}
 use Rattle.std.specs.Str.{bytes_eq}
-use Rattle.tl_html_spec.specs.Balanced.{words}
+use Rattle.tl_html_spec.specs.Balanced.{is_one_of, words}
 use Rattle.tl_names.proofs.ElementNames.{by_row, not_any}
 use Rattle.tl_names.specs.ElementNames.{element_names, name_of, number_of}
 use Rattle.tl_names.specs.Elements.{is_among}
 use Rattle.tl_names.specs.declared.element_name.ElementName.{ElementName}
+use Rattle.tl_tree.proofs.NumberedNames.{one-told}
 use Rattle.tl_tree_extract.specs.Boxes.{block_names, common_box, hidden_names, kept_names, rare_box, unless_inline}
 use Rattle.tl_tree_extract.specs.declared.text.display.Display.{Display}
 use Rattle.tl_tree_extract.specs.declared.text.display.Display.TheVariants.{Block, Hidden, Inline, LineBreak, Paragraph, Preformatted, TableBox, TableCell, TableRow}
@@ -94,3 +96,16 @@ when-inline Preformatted e h = refl
 when-inline TableBox e h = refl
 when-inline TableRow e h = refl
 when-inline TableCell e h = refl
+
+-- the name of a number that is known
+pub known-said : (said : Option (List ℕ)) (known : ElementName) → option_map name_of said ≡ Some known → known ≡ name_of (unwrap_or said [])
+known-said None known e = cc
+known-said (Some n) known e = cc
+
+or-none : (b : Bool) → b ≡ (b || false)
+or-none true = refl
+or-none false = refl
+
+pub dialog-told : (known : ElementName) (n : List ℕ) → known ≡ name_of n → nat_eq known.number 31 ≡ is_one_of (codes "dialog") n
+unfolding element_names name_of
+dialog-told known n e = one-told (codes "dialog") known n refl e ∙ or-none (bytes_eq n (codes "dialog"))

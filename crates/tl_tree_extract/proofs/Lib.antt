@@ -5,3 +5,6 @@ pub mod Readables
 pub mod Found
 pub mod Numbers
 pub mod Cells
+pub mod Escaped
+pub mod Lossy
+pub mod Chains

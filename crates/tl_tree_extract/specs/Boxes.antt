@@ -1,11 +1,10 @@
 -- Which box an element has by the default style sheet of the HTML standard (15.3), as far as the
 -- readable text of a page goes by it.
-use Rattle.std.specs.Option.{is_some, option_map, unwrap_or}
-use Rattle.std.specs.Prelude.{Bool, List, codes, false, if◌then◌else◌, not, slice_get, true, ℕ, ◌&&◌, ◌||◌}
-use Rattle.std.specs.Str.{bytes_eq}
-use Rattle.tl_dom_spec.specs.Tags.{Namespace, Tag, html_space, is_html, math_space, svg_space}
+use Rattle.std.specs.Option.{is_some, option_and_then, option_map, unwrap_or}
+use Rattle.std.specs.Prelude.{Bool, List, Option, codes, false, if◌then◌else◌, not, slice_get, true, ℕ, ◌&&◌, ◌||◌}
+use Rattle.tl_dom_spec.specs.Tags.{Attribute, Namespace, Tag, html_space, is_html, math_space, svg_space}
 use Rattle.tl_html_spec.specs.Balanced.{is_one_of}
-use Rattle.tl_tree.specs.Asked.{node_at, value_of}
+use Rattle.tl_tree.specs.Asked.{name_of, node_at, value_of}
 use Rattle.tl_tree.specs.Rows.{Node, Row, an_element}
 use Rattle.tl_tree_extract.specs.declared.text.display.Display.{Display}
 use Rattle.tl_tree_extract.specs.declared.text.display.Display.TheVariants.{Block, Hidden, Inline, LineBreak, Paragraph, Preformatted, TableBox, TableCell, TableRow}
@@ -66,12 +65,13 @@ box_in math_space name = foreign_box name
 box_in svg_space name = foreign_box name
 
 -- `[hidden]`, and `dialog:not([open])`
+abbrev pub is_concealed_html : List ℕ → List Attribute → Bool
+is_concealed_html name attributes =
+    is_some (value_of (codes "hidden") attributes)
+    || (is_one_of (codes "dialog") name && not (is_some (value_of (codes "open") attributes)))
+
 abbrev pub is_concealed : Tag → Bool
-is_concealed tag =
-    is_html tag
-    && (is_some (value_of (codes "hidden") tag.attributes)
-    || (is_one_of (codes "dialog") tag.name
-    && not (is_some (value_of (codes "open") tag.attributes))))
+is_concealed tag = is_html tag && is_concealed_html tag.name tag.attributes
 
 -- by its namespace and name alone
 abbrev pub box_of : Node → Display
@@ -92,12 +92,17 @@ is_concealed_at rows number = unwrap_or (option_map conceals (node_at rows numbe
 abbrev pub is_left_out : List Bool → ℕ → Bool
 is_left_out marks number = unwrap_or (slice_get marks number) false
 
+-- the name of an element
+abbrev pub name_at : List Row → ℕ → Option (List ℕ)
+name_at rows number = option_and_then name_of (node_at rows number)
+
+abbrev pub shown_at : List Row → ℕ → Display
+shown_at rows number = if is_concealed_at rows number then Hidden else box_at rows number
+
 -- what has a mark is hidden
 abbrev pub display_at : List Bool → List Row → ℕ → Display
 display_at marks rows number =
-    if is_left_out marks number || is_concealed_at rows number
-    then Hidden
-    else box_at rows number
+    if is_left_out marks number then Hidden else shown_at rows number
 
 abbrev pub is_hidden : Display → Bool
 is_hidden Hidden = true

@@ -5,10 +5,14 @@ use Rattle.tl_dom_spec.specs.HtmlForest.{HtmlForest, element, no_trees}
 use Rattle.tl_dom_spec.specs.HtmlTree.{html_tree_by, standard}
 use Rattle.tl_dom_spec.specs.Tags.{html_tag}
 use Rattle.tl_tree.specs.Rows.{rows_of}
+use Rattle.tl_tree_extract.specs.Fields.{record_written}
 use Rattle.tl_tree_extract.specs.Links.{parts_of}
+use Rattle.tl_tree_extract.specs.Outline.{outline_of}
 use Rattle.tl_tree_extract.specs.Readable.{readable_below, readable_rows}
 use Rattle.tl_tree_extract.specs.Spans.{Part}
 use Rattle.tl_tree_extract.specs.Table.{Forming, place_cells}
+use Rattle.tl_tree_extract.specs.declared.column.Columns.{Columns}
+use Rattle.tl_tree_extract.specs.declared.fields.Field.{Field}
 use Rattle.tl_tree_extract.specs.declared.tables.Cell.{Cell}
 use Rattle.tl_tree_extract.specs.declared.tables.TableRow.{TableRow}
 use Rattle.tl_tree_extract.specs.declared.url_keys.UrlKind.{UrlKind}
@@ -68,3 +72,12 @@ two_rows cells first second =
     let none : Forming = record { width = 0; cells = [] } in
     flat_map cell_shown
     (place_cells rows row 1 second 0 (place_cells rows row 0 first 0 none)).cells
+
+-- the headings of a page
+abbrev pub outline : String → List ℕ
+outline page = outline_of (rows_of (html_tree_by standard (codes page)).trees)
+
+-- what fields say of a node of a page
+abbrev pub record_of : Columns → String → List Field → ℕ → List ℕ
+record_of columns page fields n =
+    record_written columns (rows_of (html_tree_by standard (codes page)).trees) fields n

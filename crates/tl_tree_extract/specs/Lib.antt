@@ -9,6 +9,10 @@ pub mod Refresh
 pub mod Candidates
 pub mod UrlKeys
 pub mod Links
+pub mod Json
+pub mod Outline
+pub mod Fields
+pub mod Resolved
 pub mod Table
 pub mod Inner
 pub mod Examples

@@ -2,7 +2,7 @@
 -- standard's own.
 use Rattle.std.specs.List.{list_any}
 use Rattle.std.specs.Option.{option_map, unwrap_or}
-use Rattle.std.specs.Prelude.{Bool, List, None, Option, Some, [], false, if◌then◌else◌, length, max, nat_le, nat_lt, suc, true, zero, ℕ, ◌+◌, ◌-◌, ◌&&◌, ◌++◌, ◌==◌, ◌∷◌}
+use Rattle.std.specs.Prelude.{Bool, List, [], false, if◌then◌else◌, length, max, nat_le, nat_lt, suc, true, zero, ℕ, ◌+◌, ◌-◌, ◌&&◌, ◌++◌, ◌==◌, ◌∷◌}
 use Rattle.tl_tree.specs.Asked.{ancestors_at, end_at, node_at}
 use Rattle.tl_tree.specs.Rows.{Node, Row, a_text, an_element}
 use Rattle.tl_tree_extract.specs.Boxes.{box_at, display_at, is_hidden, keeps_lines}
@@ -94,3 +94,7 @@ readable_below marks rows number =
 -- all rows
 abbrev pub readable_rows : List Bool → List Row → List ℕ
 readable_rows marks rows = readable marks rows 0 (length rows) 0
+
+-- a text on one line: its words, with a space between two
+abbrev pub one_line : List ℕ → List ℕ
+one_line text = written at_begin (text_items false text)

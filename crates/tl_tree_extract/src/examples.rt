@@ -1,9 +1,13 @@
-//! Worked rows: numbers, URLs of values as `start:URL`, cells as `left-right,top-bottom`.
+//! Worked rows: numbers, URLs of values as `start:URL`, cells as `left-right,top-bottom`,
+//! lines with `/` for a line feed and `_` for a tab.
 
 ghost use Rattle.std.specs.Prelude.{◌≡◌, ◌∷◌, [], None, Some, codes};
 ghost use Rattle.tl_dom_spec.specs.HtmlForest.{no_trees};
-ghost use Rattle.tl_tree_extract.specs.Examples.{a_cell, two_rows, urls};
+ghost use Rattle.tl_tree_extract.specs.Examples.{a_cell, outline, record_of, shown, two_rows, urls};
+ghost use Rattle.tl_tree_extract.specs.Fields.{value_written};
 ghost use Rattle.tl_tree_extract.specs.Numbers.{non_negative};
+ghost use Rattle.tl_tree_extract.specs.declared.column.Columns.TheVariants.{Commas, Tabs};
+ghost use Rattle.tl_tree_extract.specs.declared.fields.Field.TheVariants.{Name, Text};
 ghost use Rattle.tl_tree_extract.specs.declared.url_keys.UrlKind.TheVariants.{Candidates, Refresh, Whole, Words};
 
 /// What the rules for parsing non-negative integers make of bytes.
@@ -39,4 +43,19 @@ pub fn cells_in_slots()
         (0 ∷ 1 ∷ []) [] ≡ codes "0-1,0-3; 1-2,0-3; " }
     ensures overlap { two_rows (a_cell "1" "1" (a_cell "1" "2" (a_cell "2" "1" no_trees)))
         (0 ∷ 1 ∷ []) (2 ∷ []) ≡ codes "0-1,0-1; 1-2,0-2; 0-2,1-2; " }
+{}
+
+/// Headings.
+pub fn outlines()
+    ensures levels { outline "<h1>a</h1>b<h3>c<br>d</h3>" ≡ shown "h1 a/    h3 c d/" }
+    ensures template { outline "<template><h1>a" ≡ shown "" }
+{}
+
+/// Columns.
+pub fn columns()
+    ensures order { record_of Tabs "<p>a" (Name ∷ Text ∷ []) 3 ≡ shown "p_a/" }
+    ensures turned { record_of Commas "<p>a" (Text ∷ Name ∷ []) 3 ≡ codes "a,p\n" }
+    ensures alone { record_of Commas "<p>" (Text ∷ []) 3 ≡ codes "\"\"\n" }
+    ensures quote { value_written Commas (codes "a\"") ≡ codes "\"a\"\"\"" }
+    ensures tab { value_written Tabs (codes "a\tb") ≡ codes "a\\tb" }
 {}

@@ -138,9 +138,9 @@ fn push_links<'t>(
     Ok(())
 }
 
-// Where contents of templates end at last that begin no later than a number, from where those end
-// that begin before it.
-fn contents_end(tree: &Tree<'_>, number: usize, behind: usize) -> usize
+/// Where contents of templates end at last that begin no later than a number, from where those end
+/// that begin before it.
+pub(crate) fn contents_end(tree: &Tree<'_>, number: usize, behind: usize) -> usize
     requires { behind ≡ contents_end (rows_in tree.now) number }
     ensures { result ≡ contents_end (rows_in tree.now) (number + 1) }
 {

@@ -1,13 +1,15 @@
 //! The readable text of a page.
-ghost use Rattle.std.specs.Prelude.{OnOk, ◌++◌, ◌≡◌};
+ghost use Rattle.std.specs.Prelude.{OnOk, [], ◌++◌, ◌≡◌};
 ghost use Rattle.tl_tree.specs.TreeView.{rows_in};
-ghost use Rattle.tl_tree_extract.specs.Readable.{readable_below, readable_rows};
+ghost use Rattle.tl_tree_extract.specs.Readable.{one_line, readable_below, readable_rows};
 
 mod display;
 mod examples;
 mod flow;
-mod rows;
+pub(crate) mod rows;
 
+pub use crate::text::display::{Display, box_of};
+use crate::text::flow::Flow;
 use crate::text::rows::{is_kept, write_rows};
 use std::alloc::AllocError;
 use tl_tree::Tree;
@@ -42,4 +44,21 @@ pub fn write_readable_document(
         ≡ out.old.items ++ readable_rows left_out.now (rows_in tree.now)) }
 {
     write_rows(tree, left_out, 0, tree.len(), 0, out)
+}
+
+/// Writes the readable text of what is below a node on one line: its words, with a space between
+/// two. The vector is room.
+pub(crate) fn write_one_line(
+    tree: &Tree<'_>,
+    number: usize,
+    room: &mut Vec<u8>,
+    out: &mut Vec<u8>,
+) -> Result<(), AllocError>
+    ensures { OnOk result (out.new.items
+        ≡ out.old.items ++ one_line (readable_below [] (rows_in tree.now) number)) }
+{
+    room.clear();
+    write_readable_text(tree, number, &[], room)?;
+    Flow::new().put_text(false, room.as_slice(), out)?;
+    Ok(())
 }

@@ -1,8 +1,11 @@
 //! Which box an element has, as far as the readable text of a page goes by it.
-ghost use Rattle.std.specs.Prelude.{List, ◌≡◌, ℕ};
+ghost use Rattle.std.specs.Option.{option_map, unwrap_or};
+ghost use Rattle.std.specs.Prelude.{List, Some, [], codes, ◌≡◌, ℕ};
+ghost use Rattle.tl_html_spec.specs.Balanced.{is_one_of};
 ghost use Rattle.tl_names.specs.ElementNames.{name_of};
+ghost use Rattle.tl_tree.specs.Asked.{attributes_at};
 ghost use Rattle.tl_tree.specs.TreeView.{rows_in};
-ghost use Rattle.tl_tree_extract.specs.Boxes.{box_at, common_box, display_at, foreign_box, html_box, is_concealed_at, is_left_out, rare_box};
+ghost use Rattle.tl_tree_extract.specs.Boxes.{box_at, common_box, display_at, foreign_box, html_box, is_concealed_html, is_left_out, name_at, rare_box, shown_at};
 
 use crate::text::display::Display::{
     Block, Hidden, Inline, LineBreak, Paragraph, Preformatted, TableBox, TableCell, TableRow,
@@ -13,7 +16,7 @@ use tl_tree::{Namespace, Tree};
 
 /// What of the default style sheet the readable text of a page goes by.
 #[derive(Clone, Copy)]
-pub(crate) enum Display {
+pub enum Display {
     /// No box.
     Hidden,
     Inline,
@@ -87,12 +90,20 @@ fn rare_box(name: &[u8]) -> Display
     }
 }
 
-fn html_box(name: &[u8]) -> Display
-    ensures { result ≡ html_box name.now }
+// The name of an element: nothing where there is no such element.
+fn name<'t>(tree: &'t Tree<'_>, number: usize) -> &'t [u8]
+    ensures { result.now ≡ unwrap_or (name_at (rows_in tree.now) number) [] }
 {
-    let known = ElementName::of(name);
+    tree.name(number).unwrap_or(b"")
+}
+
+// The box of an HTML element with a name of this number.
+fn html_box(tree: &Tree<'_>, number: usize, known: ElementName) -> Display
+    requires { option_map name_of (name_at (rows_in tree.now) number) ≡ Some known }
+    ensures { result ≡ html_box (unwrap_or (name_at (rows_in tree.now) number) []) }
+{
     if known == ElementName::OTHER {
-        rare_box(name)
+        rare_box(name(tree, number))
     } else {
         common_box(known)
     }
@@ -111,28 +122,57 @@ fn foreign_box(name: &[u8]) -> Display
     }
 }
 
-/// The box of a node by its namespace and name alone.
-pub(crate) fn box_of(tree: &Tree<'_>, number: usize) -> Display
+// Whether a name of this number is `dialog`.
+#[inline(always)]
+fn is_dialog(known: ElementName) -> bool
+    ensures { (n : List ℕ) → known ≡ name_of n → result ≡ is_one_of (codes "dialog") n }
+{
+    known == ElementName::DIALOG
+}
+
+// Whether an HTML element with a name of this number has no box by its attributes.
+fn is_concealed(tree: &Tree<'_>, number: usize, known: ElementName) -> bool
+    requires { option_map name_of (name_at (rows_in tree.now) number) ≡ Some known }
+    ensures { result ≡ is_concealed_html (unwrap_or (name_at (rows_in tree.now) number) [])
+        (attributes_at (rows_in tree.now) number) }
+{
+    if tree.value(number, b"hidden").is_some() {
+        return true;
+    }
+    is_dialog(known) && tree.value(number, b"open").is_none()
+}
+
+// The box of an element with a name of this number by its namespace and name alone.
+#[inline(always)]
+fn known_box(tree: &Tree<'_>, number: usize, known: ElementName) -> Display
+    requires { option_map name_of (name_at (rows_in tree.now) number) ≡ Some known }
     ensures { result ≡ box_at (rows_in tree.now) number }
 {
-    let Some(name) = tree.name(number) else {
-        return Inline;
-    };
     match tree.namespace(number) {
-        Some(Namespace::Html) => html_box(name),
-        _ => foreign_box(name),
+        Some(Namespace::Html) => html_box(tree, number, known),
+        _ => foreign_box(name(tree, number)),
     }
 }
 
-// Whether an element has no box by its attributes.
-fn is_concealed(tree: &Tree<'_>, number: usize) -> bool
-    ensures { result ≡ is_concealed_at (rows_in tree.now) number }
+/// The box of a node by its namespace and name alone.
+pub fn box_of(tree: &Tree<'_>, number: usize) -> Display
+    ensures { result ≡ box_at (rows_in tree.now) number }
 {
-    if tree.namespace(number) != Some(Namespace::Html) {
-        return false;
+    match tree.element_name(number) {
+        Some(known) => known_box(tree, number, known),
+        None => Inline,
     }
-    tree.value(number, b"hidden").is_some()
-        || tree.name(number) == Some(b"dialog") && tree.value(number, b"open").is_none()
+}
+
+// The box of an element with a name of this number.
+fn element_box(tree: &Tree<'_>, number: usize, known: ElementName) -> Display
+    requires { option_map name_of (name_at (rows_in tree.now) number) ≡ Some known }
+    ensures { result ≡ shown_at (rows_in tree.now) number }
+{
+    match tree.namespace(number) {
+        Some(Namespace::Html) if is_concealed(tree, number, known) => Hidden,
+        _ => known_box(tree, number, known),
+    }
 }
 
 /// Whether a number has a mark.
@@ -146,9 +186,11 @@ fn is_left_out(marks: &[bool], number: usize) -> bool
 pub(crate) fn display_of(tree: &Tree<'_>, marks: &[bool], number: usize) -> Display
     ensures { result ≡ display_at marks.now (rows_in tree.now) number }
 {
-    if is_left_out(marks, number) || is_concealed(tree, number) {
-        Hidden
-    } else {
-        box_of(tree, number)
+    if is_left_out(marks, number) {
+        return Hidden;
+    }
+    match tree.element_name(number) {
+        Some(known) => element_box(tree, number, known),
+        None => Inline,
     }
 }
