@@ -1,20 +1,16 @@
 -- Compounds by the tests of their steps.
-use Rattle.std.proofs.Common.{◌≡◌, ◌<◌, ◌≤◌, ◌+◌, ◌↔◌, ◌∷◌, [], ℕ, zero, suc, List, true, length, sym, ap, arith, inl, inr, subst, refl, Option, None, Some, IfSome, option_and_then, slice_get}
+use Rattle.std.proofs.Common.{◌≡◌, ◌<◌, ◌≤◌, ◌↔◌, ◌∷◌, [], ℕ, zero, suc, List, true, length, sym, ap, arith, inl, inr, subst, refl, Option, None, Some, IfSome, option_and_then, slice_get}
 use Rattle.std.proofs.lemmas.Bool.{false≢true, cases_lt}
-use Rattle.std.specs.Option.{IsSomeAnd}
 use Rattle.std.proofs.lemmas.Option.{slice_get_past}
 use Rattle.tl_tree_select.specs.Page.{Page}
-use Rattle.tl_tree_select.specs.Meaning.{Holds, IsNamed}
+use Rattle.tl_tree_select.specs.Meaning.{Holds}
 use Rattle.tl_css.specs.Program.{after_steps, selector_of, waiting_after, last_waiting}
-use Rattle.tl_css.specs.Selector.{Css, Ident, Is, Both}
-use Rattle.tl_css.specs.View.{ident, test}
+use Rattle.tl_css.specs.Selector.{Css, Is, Both}
+use Rattle.tl_css.specs.View.{test}
 use Rattle.tl_css.specs.declared.selector.Step.{Step}
 use Rattle.tl_css.specs.declared.selector.Step.TheVariants.{Ask, Keep, Turn, Meet, Unite, Shift, Count}
 use Rattle.tl_css.specs.declared.selector.Test.{Test}
-use Rattle.tl_css.specs.declared.selector.Test.TheVariants.{Any, Name, Id, Class, Key, Value, Empty, May}
-use Rattle.tl_names.specs.ElementNames.{name_of as number_of}
-use Rattle.tl_names.specs.declared.element_name.ElementName.{ElementName}
-use Rattle.tl_tree_select.specs.Inner.Compound.{BeginsWith, HoldsAt, IsCompound, fits, name_of, test_in}
+use Rattle.tl_tree_select.specs.Inner.Compound.{HoldsAt, IsCompound, fits, test_in}
 
 -- Steps
 
@@ -68,7 +64,7 @@ module _ (page : Page) (n : ℕ) where
   kept (Count way link formula ∷ steps) e h = absurd (false≢true (h 0))
 
   -- a compound holds where all its tests pass
-  all_hold : (steps : List Step) → IsCompound steps → Holds page (selector_of steps) n ↔ All steps
+  pub all_hold : (steps : List Step) → IsCompound steps → Holds page (selector_of steps) n ↔ All steps
   unfolding waiting_after
   all_hold [] c = absurd (let w = c.some in omega (arith, w))
   all_hold (Ask t ∷ steps) c =
@@ -84,30 +80,9 @@ module _ (page : Page) (n : ℕ) where
   all_hold (Shift way link reach ∷ steps) c = absurd (false≢true (c.each 0))
   all_hold (Count way link formula ∷ steps) c = absurd (false≢true (c.each 0))
 
-past : (page : Page) (steps : List Step) (place number : ℕ) → length steps ≤ place → HoldsAt page steps place number
+-- no test stands behind the last one
+pub past : (page : Page) (steps : List Step) (place number : ℕ) → length steps ≤ place → HoldsAt page steps place number
 past page steps place number h = subst (λ (o : Option Step). IfSome (option_and_then test_in o) (λ (t : Test). Holds page (Is (test t)) number)) (sym (slice_get_past steps place h)) tt
-
-module _ (page : Page) (steps : List Step) (number : ℕ) where
-  -- the tests below a place pass
-  abbrev pub HoldBelow : ℕ → Type 0
-  HoldBelow place = (k : ℕ) → k < place → HoldsAt page steps k number
-
-  pub hold_more : (place : ℕ) → HoldsAt page steps place number → HoldBelow place → HoldBelow (place + 1)
-  hold_more place here h k w = elim (cases_lt k place) [
-    | inl lt ↦ h k lt
-    | inr ge ↦ (let same : place ≡ k = omega (arith, ge, w) in subst (λ (place : ℕ). HoldsAt page steps place number) same here)
-  ]
-
-  -- a compound holds where all its tests pass
-  pub hold_all : (place : ℕ) → IsCompound steps → length steps ≤ place → HoldBelow place → Holds page (selector_of steps) number
-  hold_all place c long h = (all_hold page number steps c).1 (λ k. elim (cases_lt k place) [
-    | inl lt ↦ h k lt
-    | inr ge ↦ past page steps k number (omega (arith, ge, long))
-  ])
-
-  -- and none of them fails where it holds
-  pub none_fails : (place : ℕ) → IsCompound steps → (HoldsAt page steps place number → ⊥) → Holds page (selector_of steps) number → ⊥
-  none_fails place c isnt h = isnt ((all_hold page number steps c).0 h place)
 
 -- steps that fit below a place where they end are a compound
 pub compound_of : (steps : List Step) (place : ℕ) → 0 < length steps → length steps ≤ place
@@ -119,21 +94,3 @@ compound_of steps place some long h = record {
     | inr ge ↦ subst (λ (o : Option Step). IfSome o (λ step. fits k step ≡ true)) (sym (slice_get_past steps k (omega (arith, ge, long)))) tt
   ];
 }
-
--- a compound that begins with a name holds at elements of that name alone
-module _ (page : Page) (n : ℕ) (known : ElementName) where
-  first_named : (o : Option Test) → IsSomeAnd (option_and_then name_of o) (λ name. known ≡ number_of name.lower.items) → IfSome o (λ (t : Test). Holds page (Is (test t)) n)
-      → (name : Ident) × (known ≡ number_of name.lower) × IsNamed page name n
-  first_named None b h = absurd b
-  first_named (Some Any) b h = absurd b
-  first_named (Some (Name name)) b h = (ident name, b, h.1)
-  first_named (Some (Id id)) b h = absurd b
-  first_named (Some (Class class)) b h = absurd b
-  first_named (Some (Key key)) b h = absurd b
-  first_named (Some (Value key op value folds)) b h = absurd b
-  first_named (Some Empty) b h = absurd b
-  first_named (Some (May anchor)) b h = absurd b
-
-  pub named_first : (steps : List Step) → IsCompound steps → BeginsWith known steps → Holds page (selector_of steps) n
-      → (name : Ident) × (known ≡ number_of name.lower) × IsNamed page name n
-  named_first steps c b h = first_named (option_and_then test_in (slice_get steps 0)) b ((all_hold page n steps c).0 h 0)

@@ -6,7 +6,8 @@ use Rattle.std.specs.Option.{option_map}
 use Rattle.tl_css.specs.Selector.{Css}
 use Rattle.tl_tree.specs.Asked.{end_at, node_at}
 use Rattle.tl_tree.specs.Rows.{IsInRange, Row, contents}
-use Rattle.tl_tree_select.specs.Inner.Finding.{EndsContents, IsFoundFrom, IsHidden}
+use Rattle.tl_tree_select.specs.Inner.Finding.{EndsContents, IsFoundFrom, IsHidden, IsNext}
+use Rattle.tl_tree_select.specs.declared.passing.Place.{Place}
 use Rattle.tl_tree_select.specs.Meaning.{IsFirst, IsFound}
 use Rattle.tl_tree_select.specs.Page.{Page}
 use Rattle.tl_tree_select.proofs.Marks.{holds_within}
@@ -72,26 +73,17 @@ from_front page e n = (
 
 -- The first one that is found
 
-abbrev pub NoneBefore : Page → Css → ℕ → Type 0
-NoneBefore page e number = (n : ℕ) → n < number → IsFound page e n → ⊥
+pub found_nowhere : (page : Page) (e : Css) (len : ℕ) → len ≡ length page.rows → ((n : ℕ) → 0 ≤ n → n < len → IsFoundFrom page e 0 n → ⊥)
+    → (n : ℕ) → IsFound page e n → ⊥
+found_nowhere page e len all none n h =
+    let w = holds_within page e n h.0 in
+    none n (omega arith) (omega (arith, w, all)) ((from_front page e n).1 h)
 
-pub none_yet : (page : Page) (e : Css) → NoneBefore page e 0
-none_yet page e n lt h = omega (arith, lt)
-
-pub none_more : (page : Page) (e : Css) (number : ℕ) → (IsFound page e number → ⊥) → NoneBefore page e number → NoneBefore page e (number + 1)
-none_more page e number isnt before n lt h = elim (cases_lt n number) [
-  | inl less ↦ before n less h
-  | inr ge ↦ isnt (subst (IsFound page e) (let here : n ≡ number = omega (arith, lt, ge) in here) h)
-]
-
-pub found_nowhere : (page : Page) (e : Css) (number : ℕ) → length page.rows ≤ number → NoneBefore page e number → (n : ℕ) → IsFound page e n → ⊥
-found_nowhere page e number all before n h = before n (let w = holds_within page e n h.0 in omega (arith, w, all)) h
-
-pub is_first : (page : Page) (e : Css) (number : ℕ) → IsFound page e number → NoneBefore page e number → IsFirst page e number
-is_first page e number found before = record {
-  found = found;
-  first = λ m h. elim (cases_lt m number) [
-    | inl less ↦ absurd (before m less h)
+pub is_first : (page : Page) (e : Css) (end : ℕ) (at : Place) → IsNext page e 0 0 end at → IsFirst page e at.number
+is_first page e end at next = record {
+  found = (from_front page e at.number).0 next.found;
+  first = λ m h. elim (cases_lt m at.number) [
+    | inl less ↦ absurd (next.first m (omega arith) less ((from_front page e m).1 h))
     | inr ge ↦ ge
   ];
 }

@@ -1,10 +1,12 @@
 pub mod Ahead
-pub mod Behind
+pub mod Backwards
 pub mod Compounds
 pub mod Contents
 pub mod Formulas
 pub mod Founds
+pub mod Insides
 pub mod Kins
+pub mod Looks
 pub mod Lowercase
 pub mod Marks
 pub mod Nothings

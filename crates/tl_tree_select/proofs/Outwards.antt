@@ -1,5 +1,5 @@
 -- The way from a row outwards.
-use Rattle.std.proofs.Common.{◌≡◌, ◌⊎◌, ℕ, zero, suc, Option, None, Some, IfSome, ◌+◌, ◌<◌, refl, inl, inr, subst, sym, ◌∙◌, arith}
+use Rattle.std.proofs.Common.{◌≡◌, ℕ, zero, suc, Option, None, Some, IfSome, ◌+◌, ◌<◌, inl, inr, subst, sym, ◌∙◌, arith}
 use Rattle.std.specs.Prelude.{MatchOption}
 use Rattle.std.specs.Option.{option_map_or}
 use Rattle.std.proofs.lemmas.Option.{same_Some}
@@ -15,7 +15,7 @@ module _ (page : Page) where
   parents_alike : (k m n : ℕ) → IsBefore page Parent k n → IsBefore page Parent m n → k ≡ m
   parents_alike k m n a b = same_Some k m (sym a.1 ∙ b.1)
 
-  is_link : (m n : ℕ) → IsBefore page Parent m n → IsLink page Parent m n
+  pub is_link : (m n : ℕ) → IsBefore page Parent m n → IsLink page Parent m n
   is_link m n h = (h, λ k g. let same = parents_alike k m n g h in omega (arith, same))
 
   one_more : (j m at n : ℕ) → AreLinks page Parent j at n → IsBefore page Parent m at → AreLinks page Parent (suc j) m n

@@ -1,5 +1,5 @@
 -- Tests of elements.
-use Rattle.std.proofs.Common.{◌≡◌, ◌↔◌, Bool, true, None, Option, Some, Result, Ok, Err, IfOk, ap, false, ℕ, List, subst, sym, ◌∙◌}
+use Rattle.std.proofs.Common.{◌≡◌, ◌↔◌, Bool, true, None, Option, Some, Result, Ok, Err, IfOk, ap, ℕ, List, subst, sym, ◌∙◌}
 use Rattle.std.proofs.lemmas.Option.{none-some, same_Some}
 use Rattle.std.specs.Option.{option_map}
 use Rattle.tl_css.specs.Selector.{Ident, Test}

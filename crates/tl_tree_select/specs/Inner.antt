@@ -4,5 +4,6 @@ pub mod Compound
 pub mod Finding
 pub mod Kin
 pub mod Links
+pub mod Looking
 pub mod Terms
 pub mod Twin

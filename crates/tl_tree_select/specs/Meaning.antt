@@ -1,5 +1,5 @@
 -- Where a selector of CSS holds in a page: at elements.
-use Rattle.std.specs.Prelude.{◌≡◌, ◌≢◌, ◌↔◌, ◌⊎◌, ◌<◌, ◌≤◌, ◌+ℤ◌, ◌*ℤ◌, ◌&&◌, ◌||◌, ℕ, zero, suc, pos, Bool, true, false, if◌then◌else◌, List, [], ◌∷◌, ◌++◌, codes, length, Option, Some, None, ⊤}
+use Rattle.std.specs.Prelude.{◌≡◌, ◌≢◌, ◌↔◌, ◌⊎◌, ◌<◌, ◌≤◌, ◌+ℤ◌, ◌*ℤ◌, ◌&&◌, ◌||◌, ℕ, zero, suc, pos, Bool, true, false, if◌then◌else◌, List, [], ◌∷◌, ◌++◌, codes, length, slice_get, Option, Some, None, ⊤}
 use Rattle.std.specs.List.{All, AllPairs, Contains, slice_split}
 use Rattle.std.specs.Option.{IsSome, IsSomeAnd, is_some, option_and_then, option_map_or}
 use Rattle.std.specs.Str.{byte, str_to_ascii_lowercase}
@@ -20,8 +20,8 @@ use Rattle.tl_dom_spec.specs.Tables.{no_bytes}
 use Rattle.tl_dom_spec.specs.Tags as dom
 use Rattle.tl_dom_spec.specs.Tags.{is_html}
 use Rattle.tl_names.specs.Elements.{is_among}
-use Rattle.tl_tree.specs.Asked.{attributes_at, children_at, name_of, node_at, parent_at, value_of}
-use Rattle.tl_tree.specs.Rows.{IsInRange, Node, a_comment, a_doctype, a_text, an_element, contents}
+use Rattle.tl_tree.specs.Asked.{attributes_at, children_at, end_at, name_of, node_at, outer_end, parent_at, value_of}
+use Rattle.tl_tree.specs.Rows.{IsInRange, Node, Row, a_comment, a_doctype, a_text, an_element, contents}
 use Rattle.tl_tree_select.specs.Page.{Page}
 use Rattle.tl_tree_select.specs.AnyCase.{any_case_keys}
 
@@ -84,6 +84,11 @@ pub record IsCount (P : ℕ → Type 0) (count : ℕ) : Type 0 where
   pub rising : AllPairs (λ m n. m < n) numbers
   pub each : (n : ℕ) → Contains numbers n ↔ P n
   pub many : length numbers ≡ count
+
+-- where what a row stands in ends, or all rows do
+abbrev pub outer_end_at : List Row → ℕ → Option ℕ
+outer_end_at rows number =
+    option_and_then (λ (row : Row). outer_end rows row.parent) (slice_get rows number)
 
 module _ (page : Page) where
   -- the number of an element
@@ -219,6 +224,22 @@ module _ (page : Page) where
   pub record AreFoundBelow (e : Css) (outer : ℕ) (ns : List ℕ) : Type 0 where
     pub rising : AllPairs (λ m n. m < n) ns
     pub each : (n : ℕ) → Contains ns n ↔ IsFoundBelow e outer n
+
+  -- a row stands behind another one in what that stands in: a sibling after it, or below one
+  abbrev pub IsBehind : ℕ → ℕ → Type 0
+  IsBehind before n = IsSomeAnd (end_at page.rows before) (λ start. start ≤ n)
+      × IsSomeAnd (outer_end_at page.rows before) (λ end. n < end)
+
+  -- a selector holds at an element behind a row, outside of contents behind that
+  abbrev pub IsFoundBehind : Css → ℕ → ℕ → Type 0
+  IsFoundBehind e before n = Holds e n × IsBehind before n
+      × ((m : ℕ) → node_at page.rows m ≡ Some contents → IsBehind before m
+      → IsInRange page.rows m n → ⊥)
+
+  -- the numbers of the elements behind a row where a selector holds: each once, rising
+  pub record AreFoundBehind (e : Css) (before : ℕ) (ns : List ℕ) : Type 0 where
+    pub rising : AllPairs (λ m n. m < n) ns
+    pub each : (n : ℕ) → Contains ns n ↔ IsFoundBehind e before n
 
   -- of a row and the elements that it stands in the innermost one where a selector holds: each
   -- other one stands around it

@@ -2,21 +2,73 @@
 ghost use Rattle.std.specs.Prelude.{◌≡◌, ◌↔◌, ◌<◌, ◌^◌, ℕ, IfOk, true, length, ◌&&◌, ◌||◌};
 ghost use Rattle.tl_css.specs.Selector.{At, Both, Css, Is, Not, Nth};
 ghost use Rattle.tl_css.specs.View.{test as test_of};
+ghost use Rattle.tl_css.specs.declared.selector.Link.TheVariants.{Parent};
+ghost use Rattle.tl_css.specs.declared.selector.Way.TheVariants.{From};
 ghost use Rattle.tl_tree_select.specs.Meaning.{Holds, IsCount, IsTerm};
-ghost use Rattle.tl_tree_select.specs.Inner.Columns.{AreMarks, IsCounted, IsPassed, is_often};
+ghost use Rattle.tl_tree_select.specs.Inner.Columns.{AreMarks, IsCounted, IsPassed, is_inside, is_often};
+ghost use Rattle.tl_tree_select.specs.Inner.Looking.{IsEnough, IsSeen};
 ghost use Rattle.tl_tree_select.specs.Inner.Kin.{AreLinksOf, is_element_at};
 ghost use Rattle.tl_tree_select.specs.Inner.Links.{AreLower, count_at, is_at};
 ghost use Rattle.tl_tree_select.specs.Page.{seen};
 
 use crate::element::is_element_at;
-use crate::links::{counts_ahead, counts_behind, is_marked, sources, targets};
+use crate::links::{counts_ahead, counts_behind, is_marked, passes_on, sources, targets};
+use crate::look::Look;
 use crate::page::Searched;
 use crate::term::is_term;
 use crate::test::is_met_at;
 use std::alloc::{AllocError, Global};
 use tl_css::selector::{Formula, Link, Reach, Test, Way};
 
-/// The marks of a test.
+// Whether a test passes at a row, by a look for it that may be enough.
+#[inline(always)]
+fn is_met_seen(
+    alloc: Global,
+    page: &Searched<'_, '_>,
+    look: Look<'_>,
+    passes: bool,
+    number: usize,
+    test: &Test,
+) -> Result<bool, AllocError>
+    requires seen { (n : ℕ) → Holds (seen page.now) (Is (test_of test.now)) n
+        → IsSeen (seen page.now) look n }
+    requires passes { passes ≡ true → IsEnough (seen page.now) look (Is (test_of test.now)) }
+    ensures { IfOk result (λ met. (met ≡ true)
+        ↔ Holds (seen page.now) (Is (test_of test.now)) number) }
+{
+    if !look.sees(page, number) {
+        return Ok(false);
+    }
+    if passes {
+        return Ok(true);
+    }
+    is_met_at(alloc, page, number, test)
+}
+
+// The marks of a test, by a look for it.
+#[inline(always)]
+fn seen_marks(
+    alloc: Global,
+    page: &Searched<'_, '_>,
+    look: Look<'_>,
+    passes: bool,
+    test: &Test,
+) -> Result<Vec<bool>, AllocError>
+    requires seen { (n : ℕ) → Holds (seen page.now) (Is (test_of test.now)) n
+        → IsSeen (seen page.now) look n }
+    requires passes { passes ≡ true → IsEnough (seen page.now) look (Is (test_of test.now)) }
+    ensures { IfOk result (λ marks. AreMarks (seen page.now)
+        (Is (test_of test.now)) marks.items) }
+{
+    let mut marks = Vec::with_capacity(alloc, page.tree.len())?;
+    for number in 0..page.tree.len() {
+        let mark = is_met_seen(alloc, page, look, passes, number, test)?;
+        marks.push(mark)?;
+    }
+    Ok(marks)
+}
+
+/// The marks of a test, by a loop of its own for the looks that are most asked for.
 pub fn test_marks(
     alloc: Global,
     page: &Searched<'_, '_>,
@@ -25,12 +77,12 @@ pub fn test_marks(
     ensures { IfOk result (λ marks. AreMarks (seen page.now)
         (Is (test_of test.now)) marks.items) }
 {
-    let mut marks = Vec::with_capacity(alloc, page.tree.len())?;
-    for number in 0..page.tree.len() {
-        let mark = is_met_at(alloc, page, number, test)?;
-        marks.push(mark)?;
+    let (look, passes) = Look::of(page, test);
+    match look {
+        Look::Name(known) => seen_marks(alloc, page, Look::Name(known), passes, test),
+        Look::Class(class) => seen_marks(alloc, page, Look::Class(class), passes, test),
+        _ => seen_marks(alloc, page, look, passes, test),
     }
-    Ok(marks)
 }
 
 // Whether a number is marked, and a test passes there.
@@ -54,19 +106,57 @@ fn is_met_among(
 pub fn test_marks_among(
     alloc: Global,
     page: &Searched<'_, '_>,
-    among: &[bool],
+    mut among: Vec<bool>,
     test: &Test,
 ) -> Result<Vec<bool>, AllocError>
-    ensures { (e : Css) → AreMarks (seen page.now) e among.now
+    ensures { (e : Css) → AreMarks (seen page.now) e among.items
         → IfOk result (λ marks. AreMarks (seen page.now)
         (Both e (Is (test_of test.now))) marks.items) }
 {
-    let mut marks = Vec::with_capacity(alloc, page.tree.len())?;
-    for number in 0..page.tree.len() {
-        let mark = is_met_among(alloc, page, among, number, test)?;
-        marks.push(mark)?;
+    for number in 0..among.len() {
+        let mark = is_met_among(alloc, page, &among, number, test)?;
+        among[number] = mark;
     }
-    Ok(marks)
+    Ok(among)
+}
+
+// Whether an element stands in a row that has a mark, or in one that was found, where several
+// links count.
+fn is_inside(
+    page: &Searched<'_, '_>,
+    marks: &[bool],
+    often: bool,
+    found: &[bool],
+    number: usize,
+) -> bool
+    ensures { result ≡ is_inside (seen page.now) marks.now often found.now number }
+{
+    if !is_element_at(page, number) {
+        return false;
+    }
+    match page.tree.parent(number) {
+        Some(parent) => passes_on(marks, often, found, parent),
+        None => false,
+    }
+}
+
+/// The marks of the elements that stand in a marked one. Parents are read from the rows.
+pub fn inside(
+    alloc: Global,
+    page: &Searched<'_, '_>,
+    marks: &[bool],
+    reach: Reach,
+) -> Result<Vec<bool>, AllocError>
+    ensures { (e : Css) → AreMarks (seen page.now) e marks.now → IfOk result (λ found.
+        AreMarks (seen page.now) (At From Parent reach e) found.items) }
+{
+    let often = is_often(reach);
+    let mut found = Vec::with_capacity(alloc, page.tree.len())?;
+    for number in 0..page.tree.len() {
+        let mark = is_inside(page, marks, often, &found, number);
+        found.push(mark)?;
+    }
+    Ok(found)
 }
 
 /// The marks of the elements that have none.

@@ -2,15 +2,13 @@
 //! itself.
 ghost use Rattle.std.specs.Prelude.{◌≡◌, ◌↔◌, IfOk, true};
 ghost use Rattle.std.specs.Option.{option_copied};
-ghost use Rattle.tl_css.specs.Program.{selector_of};
-ghost use Rattle.tl_tree_select.specs.Inner.Compound.{HoldsAt, IsCompound, fits, is_asked, is_kept, name_in, name_of, test_in};
-ghost use Rattle.tl_tree_select.specs.Meaning.{Holds};
+ghost use Rattle.tl_tree_select.specs.Inner.Compound.{HoldFrom, HoldsAt, IsCompound, fits, is_asked, is_kept, first_test, test_in};
 ghost use Rattle.tl_tree_select.specs.Page.{seen};
 
 use crate::page::Searched;
 use crate::test::is_met_at;
 use std::alloc::{AllocError, Global};
-use tl_css::selector::{Ident, Step, Test};
+use tl_css::selector::{Step, Test};
 
 fn is_asked(step: &Step) -> bool
     ensures { result ≡ is_asked step.now }
@@ -77,36 +75,25 @@ fn step_holds(
     is_met_at(alloc, page, number, test)
 }
 
-// The name that a test asks for, where it does.
-fn name_of(test: &Test) -> Option<&Ident>
-    ensures { option_copied result ≡ name_of test.now }
+/// The test of the first step.
+pub fn first_test(steps: &[Step]) -> Option<&Test>
+    ensures { option_copied result ≡ first_test steps.now }
 {
-    match test {
-        Test::Name(name) => Some(name),
-        _ => None,
-    }
+    test_in(steps.first()?)
 }
 
-/// The name that the test of the first step asks for, where it does.
-pub fn name_in(steps: &[Step]) -> Option<&Ident>
-    ensures { option_copied result ≡ name_in steps.now }
-{
-    let test = test_in(steps.first()?)?;
-    name_of(test)
-}
-
-/// Whether a compound holds at the row of a number.
-pub fn compound_holds(
+/// Whether the tests from a place on pass at the row of a number.
+pub fn hold_from(
     alloc: Global,
     page: &Searched<'_, '_>,
     number: usize,
     steps: &[Step],
+    from: usize,
 ) -> Result<bool, AllocError>
-    requires { IsCompound steps.now }
-    ensures { IfOk result (λ holds. (holds ≡ true)
-        ↔ Holds (seen page.now) (selector_of steps.now) number) }
+    ensures { IfOk result (λ hold. (hold ≡ true)
+        ↔ HoldFrom (seen page.now) steps.now from number) }
 {
-    for place in 0..steps.len() {
+    for place in from..steps.len() {
         let holds = step_holds(alloc, page, number, steps, place)?;
         if !holds {
             return Ok(false);

@@ -81,6 +81,7 @@ pub fn may_be_named(page: &Searched<'_, '_>, number: usize, known: ElementName) 
 }
 
 /// Whether there is an element of a key.
+#[inline(always)]
 pub fn has_key(page: &Searched<'_, '_>, number: usize, key: &Ident) -> bool
     ensures { (result ≡ true) ↔ IsMet (seen page.now) (Key (ident key.now)) number }
 {

@@ -4,27 +4,25 @@ ghost use Rattle.tl_css.specs.Program.{selector_of};
 ghost use Rattle.tl_css.specs.Selector.{Css};
 ghost use Rattle.tl_tree_select.specs.Inner.Columns.{AreMarks};
 ghost use Rattle.tl_tree_select.specs.Inner.Compound.{IsCompound};
-ghost use Rattle.tl_tree_select.specs.Inner.Finding.{Finds};
+ghost use Rattle.tl_tree_select.specs.Inner.Finding.{Finds, IsAnswered, IsLookFor};
 ghost use Rattle.tl_tree_select.specs.Meaning.{Holds};
 ghost use Rattle.tl_tree_select.specs.Page.{Page, seen};
 
-use crate::compound::{compound_holds, is_compound, name_in};
-use crate::element::may_be_named;
+use crate::compound::{first_test, hold_from, is_compound};
 use crate::kin::Kin;
-use crate::links::is_marked;
+use crate::links::{is_marked, one_if};
+use crate::look::Look;
 use crate::page::Searched;
 use crate::stack::marks_of;
 use std::alloc::{AllocError, Global};
 use tl_css::Selector;
 use tl_css::selector::Step;
-use tl_names::element_name::ElementName;
 
-/// What a selector is looked for by: its tests, where it is a compound, and the number of the name
-/// that it begins with; else marks of the elements where it holds.
+/// What a selector is looked for by: its tests, where it is a compound, with a look at rows for the
+/// first of them, and how many the look answers; else marks of the elements where it holds.
 #[derive(Drop)]
 pub enum Finder<'s> {
-    Named(&'s [Step], ElementName),
-    Compound(&'s [Step]),
+    Compound(&'s [Step], Look<'s>, usize),
     Marked(Vec<bool>),
 }
 
@@ -38,14 +36,15 @@ fn marked(alloc: Global, page: &Searched<'_, '_>, steps: &[Step]) -> Result<Vec<
 }
 
 // What a compound is looked for by.
-fn compound(steps: &[Step]) -> Finder<'_>
+fn compound<'s>(page: &Searched<'_, '_>, steps: &'s [Step]) -> Finder<'s>
     requires { IsCompound steps.now }
-    ensures { (page : Page) → Finds page (selector_of steps.now) result }
+    ensures { Finds (seen page.now) (selector_of steps.now) result }
 {
-    match name_in(steps) {
-        Some(name) => Finder::Named(steps, ElementName::of(&name.lower)),
-        None => Finder::Compound(steps),
-    }
+    let Some(test) = first_test(steps) else {
+        return Finder::Compound(steps, Look::Element, 0);
+    };
+    let (look, passes) = Look::of(page, test);
+    Finder::Compound(steps, look, one_if(passes) as usize)
 }
 
 impl<'s> Finder<'s> {
@@ -59,22 +58,20 @@ impl<'s> Finder<'s> {
     {
         let steps = selector.steps();
         if is_compound(steps) {
-            return Ok(compound(steps));
+            return Ok(compound(page, steps));
         }
         let marks = marked(alloc, page, steps)?;
         Ok(Finder::Marked(marks))
     }
 
-    /// Whether the selector may hold at the element of a number: a quick look.
-    #[inline]
-    pub fn may_hold(&self, page: &Searched<'_, '_>, number: usize) -> bool
-        ensures { (e : Css) → Finds (seen page.now) e self.now → Holds (seen page.now) e number
-            → result ≡ true }
+    /// What rows are looked at for.
+    pub fn look(&self) -> Look<'_>
+        ensures { (page : Page) (e : Css) → Finds page e self.now
+            → IsLookFor page e self.now result }
     {
         match self {
-            Finder::Named(_, known) => may_be_named(page, number, *known),
-            Finder::Compound(_) => true,
-            Finder::Marked(marks) => is_marked(marks, number),
+            Finder::Compound(_, look, _) => *look,
+            Finder::Marked(marks) => Look::Mark(marks),
         }
     }
 
@@ -90,8 +87,24 @@ impl<'s> Finder<'s> {
             (λ holds. (holds ≡ true) ↔ Holds (seen page.now) e number) }
     {
         match self {
-            Finder::Named(steps, _) => compound_holds(alloc, page, number, steps),
-            Finder::Compound(steps) => compound_holds(alloc, page, number, steps),
+            Finder::Compound(steps, _, _) => hold_from(alloc, page, number, steps, 0),
+            Finder::Marked(marks) => Ok(is_marked(marks, number)),
+        }
+    }
+
+    /// The same where the look answers what it can.
+    pub fn holds_seen(
+        &self,
+        alloc: Global,
+        page: &Searched<'_, '_>,
+        number: usize,
+    ) -> Result<bool, AllocError>
+        ensures { (e : Css) → Finds (seen page.now) e self.now
+            → IsAnswered (seen page.now) self.now number → IfOk result
+            (λ holds. (holds ≡ true) ↔ Holds (seen page.now) e number) }
+    {
+        match self {
+            Finder::Compound(steps, _, asked) => { hold_from(alloc, page, number, steps, *asked) }
             Finder::Marked(marks) => Ok(is_marked(marks, number)),
         }
     }

@@ -1,7 +1,7 @@
 //! Links between the rows of a page: to the parent, and to siblings before.
 ghost use Rattle.std.specs.Prelude.{◌≡◌, ◌<◌, ◌^◌, ℕ, IfOk, IfSome, true, length};
 ghost use Rattle.tl_css.specs.declared.selector.Link.TheVariants.{Parent, Sibling, Twin};
-ghost use Rattle.tl_tree_select.specs.Inner.Kin.{AreKin, AreLinksOf, AreSiblingGroups, follows, is_same, links_of, needs, parent_link, sibling_group};
+ghost use Rattle.tl_tree_select.specs.Inner.Kin.{AreKin, AreLinksOf, AreSiblingGroups, follows, is_read, is_same, links_of, needs, parent_link, sibling_group};
 ghost use Rattle.tl_tree_select.specs.Inner.Links.{link_at};
 ghost use Rattle.tl_tree_select.specs.Page.{Page, seen};
 
@@ -11,7 +11,7 @@ use crate::links::NO_LINK;
 use crate::page::Searched;
 use crate::twin::twins;
 use std::alloc::{AllocError, Global};
-use tl_css::selector::{Link, Step};
+use tl_css::selector::{Link, Step, Way};
 
 // Where the link of a row to its parent leads.
 #[tactic(auto, using(crate::proofs::Trees::parent_fits))]
@@ -71,12 +71,22 @@ fn is_same(link: Link, other: Link) -> bool
     }
 }
 
-// Whether a step follows links of this kind.
+/// Whether links of parents lead on from a row: these are read from the rows, and not kept.
+pub fn is_read(way: Way, link: Link) -> bool
+    ensures { result ≡ is_read way link }
+{
+    match (way, link) {
+        (Way::From, Link::Parent) => true,
+        _ => false,
+    }
+}
+
+// Whether a step follows links of this kind that are kept.
 fn follows(link: Link, step: &Step) -> bool
     ensures { result ≡ follows link step.now }
 {
     match step {
-        Step::Shift(_, own, _) => is_same(*own, link),
+        Step::Shift(way, own, _) => !is_read(*way, *own) && is_same(*own, link),
         Step::Count(_, own, _) => is_same(*own, link),
         _ => false,
     }

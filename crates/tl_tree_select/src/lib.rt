@@ -11,7 +11,9 @@ mod kin;
 pub mod laws;
 mod letters;
 mod links;
+mod look;
 mod page;
+mod passing;
 mod search;
 mod stack;
 mod term;
@@ -19,4 +21,4 @@ mod test;
 mod twin;
 mod value;
 
-pub use search::{below, closest, first, matches, select};
+pub use search::{behind, below, closest, first, matches, select};

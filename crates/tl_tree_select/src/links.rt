@@ -25,8 +25,8 @@ pub fn is_marked(marks: &[bool], number: usize) -> bool
     number < marks.len() && marks[number]
 }
 
-// Whether a number has its mark, or one that was found, where several links count.
-fn passes_on(marks: &[bool], often: bool, found: &[bool], number: usize) -> bool
+/// Whether a number has its mark, or one that was found, where several links count.
+pub fn passes_on(marks: &[bool], often: bool, found: &[bool], number: usize) -> bool
     ensures { result ≡ passes_on marks.now often found.now number }
 {
     is_marked(marks, number) || often && is_marked(found, number)
@@ -96,7 +96,8 @@ pub fn targets(
     Ok(found)
 }
 
-fn one_if(mark: bool) -> u32
+/// How many a mark counts.
+pub fn one_if(mark: bool) -> u32
     ensures { result ≡ one_if mark }
 {
     if mark { 1 } else { 0 }

@@ -1,17 +1,17 @@
 //! The marks of the selectors that wait, step by step.
-ghost use Rattle.std.specs.Prelude.{◌≡◌, ◌<◌, IfOk, List, ◌∷◌};
+ghost use Rattle.std.specs.Prelude.{◌≡◌, ◌<◌, IfOk, List, false, ◌∷◌};
 ghost use Rattle.tl_tree_select.specs.Page.{Page};
 ghost use Rattle.tl_css.specs.Program.{after_step, change, meet, selector_of, waiting_after};
 ghost use Rattle.tl_css.specs.Selector.{At, Css, Is, Nth};
 ghost use Rattle.tl_css.specs.View.{test as test_of};
 ghost use Rattle.tl_tree_select.specs.Inner.Columns.{AreColumns, AreMarks, changed, columns_of, join, joined};
-ghost use Rattle.tl_tree_select.specs.Inner.Kin.{AreKin, AreLinksOf, HasLinks, links_of};
+ghost use Rattle.tl_tree_select.specs.Inner.Kin.{AreKin, AreLinksOf, HasLinks, is_read, links_of};
 ghost use Rattle.tl_tree_select.specs.Page.{seen};
 
 use crate::columns::{
-    meet, relatives, terms, test_marks, test_marks_among, unite, unmarked_elements,
+    inside, meet, relatives, terms, test_marks, test_marks_among, unite, unmarked_elements,
 };
-use crate::kin::Kin;
+use crate::kin::{Kin, is_read};
 use crate::page::Searched;
 use std::alloc::{AllocError, Global};
 use tl_css::selector::{Formula, Link, Reach, Step, Test, Way};
@@ -56,7 +56,7 @@ fn keep(
         let after = push_column(columns, found)?;
         return Ok(after);
     };
-    let found = test_marks_among(alloc, page, &marks, test)?;
+    let found = test_marks_among(alloc, page, marks, test)?;
     let after = push_column(columns, found)?;
     Ok(after)
 }
@@ -69,10 +69,15 @@ fn relate(
     marks: &[bool],
     relation: (Way, Link, Reach),
 ) -> Result<Vec<bool>, AllocError>
-    requires links { AreLinksOf (seen page.now) relation.1 (links_of kin.now relation.1) }
+    requires links { is_read relation.0 relation.1 ≡ false
+        → AreLinksOf (seen page.now) relation.1 (links_of kin.now relation.1) }
     ensures { (e : Css) → AreMarks (seen page.now) e marks.now → IfOk result (λ found.
         AreMarks (seen page.now) (At relation.0 relation.1 relation.2 e) found.items) }
 {
+    if is_read(relation.0, relation.1) {
+        let found = inside(alloc, page, marks, relation.2)?;
+        return Ok(found);
+    }
     let found = relatives(alloc, page, kin.links(relation.1), marks, relation)?;
     Ok(found)
 }

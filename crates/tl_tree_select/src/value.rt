@@ -62,7 +62,8 @@ fn is_inside(value: &[u8], own: &[u8]) -> bool
     !value.is_empty() && own.contains_str(value)
 }
 
-fn is_word(value: &[u8], own: &[u8]) -> bool
+/// Whether a value has this word, and that has a byte.
+pub fn is_word(value: &[u8], own: &[u8]) -> bool
     ensures { (result ≡ true) ↔ Passes Word value.now own.now }
 {
     !value.is_empty() && has_word(value, own)

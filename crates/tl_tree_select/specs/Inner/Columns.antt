@@ -1,5 +1,5 @@
 -- Marks of the rows where selectors hold, one column of them for each selector that waits.
-use Rattle.std.specs.Prelude.{◌≡◌, ◌↔◌, ℕ, Bool, true, false, if◌then◌else◌, List, [], ◌∷◌, length, map, reverse, ⊤}
+use Rattle.std.specs.Prelude.{◌≡◌, ◌↔◌, ◌&&◌, ℕ, Bool, true, false, if◌then◌else◌, List, [], ◌∷◌, length, map, reverse, ⊤}
 use Rattle.std.proofs.Common.{Vec, Global}
 use Rattle.tl_tree_select.specs.Page.{Page}
 use Rattle.tl_css.specs.Selector.{Css, Not, Both, Either, At, Nth}
@@ -11,7 +11,10 @@ use Rattle.tl_css.specs.declared.selector.Reach.{Reach}
 use Rattle.tl_css.specs.declared.selector.Reach.TheVariants.{Once, Often}
 use Rattle.tl_css.specs.declared.selector.Way.{Way}
 use Rattle.tl_css.specs.declared.selector.Way.TheVariants.{From, To}
-use Rattle.tl_tree_select.specs.Inner.Links.{is_at, IsAhead, IsBehind, IsSource, IsTarget}
+use Rattle.tl_tree_select.specs.Inner.Links.{is_at, passes_on, IsAhead, IsBehind, IsSource, IsTarget}
+use Rattle.tl_tree_select.specs.Inner.Kin.{is_element_at}
+use Rattle.tl_tree.specs.Asked.{parent_at}
+use Rattle.std.specs.Option.{option_map_or}
 
 -- a mark at each row where a selector holds, and at no other
 pub record AreMarks (page : Page) (e : Css) (marks : List Bool) : Type 0 where
@@ -28,6 +31,11 @@ AreColumns page (e ∷ es) (marks ∷ columns) = AreMarks page e marks × AreCol
 abbrev pub is_often : Reach → Bool
 is_often Once = false
 is_often Often = true
+
+-- an element stands in a row that has a mark, or in one that was found, where several links count
+abbrev pub is_inside : Page → List Bool → Bool → List Bool → ℕ → Bool
+is_inside page marks often found n = is_element_at page n
+    && option_map_or (passes_on marks often found) (parent_at page.rows n) false
 
 -- a mark is passed on to n, in this way
 abbrev pub IsPassed : List ℕ → List Bool → Way → Bool → ℕ → Type 0

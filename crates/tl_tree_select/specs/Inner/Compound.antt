@@ -1,15 +1,10 @@
 -- Compounds: selectors whose steps are tests of one element.
-use Rattle.std.specs.Option.{IsSomeAnd}
-use Rattle.std.specs.Prelude.{◌≡◌, ◌<◌, ◌∷◌, ℕ, zero, suc, Bool, true, false, List, length, Option, None, Some, IfSome, option_and_then, slice_get}
+use Rattle.std.specs.Prelude.{◌≡◌, ◌<◌, ◌≤◌, ℕ, zero, suc, Bool, true, false, List, length, Option, None, Some, IfSome, option_and_then, slice_get}
 use Rattle.tl_css.specs.declared.selector.Step.{Step}
 use Rattle.tl_css.specs.declared.selector.Step.TheVariants.{Ask, Keep, Turn, Meet, Unite, Shift, Count}
-use Rattle.tl_css.specs.declared.selector.Ident.{Ident}
 use Rattle.tl_css.specs.declared.selector.Test.{Test}
-use Rattle.tl_css.specs.declared.selector.Test.TheVariants.{Any, Name, Id, Class, Key, Value, Empty, May}
 use Rattle.tl_css.specs.Selector.{Is}
 use Rattle.tl_css.specs.View.{test}
-use Rattle.tl_names.specs.ElementNames.{name_of as number_of}
-use Rattle.tl_names.specs.declared.element_name.ElementName.{ElementName}
 use Rattle.tl_tree_select.specs.Meaning.{Holds}
 use Rattle.tl_tree_select.specs.Page.{Page}
 
@@ -23,24 +18,9 @@ test_in Unite = None
 test_in (Shift way link reach) = None
 test_in (Count way link formula) = None
 
--- the name that a test asks for, where it does
-abbrev pub name_of : Test → Option Ident
-name_of Any = None
-name_of (Name name) = Some name
-name_of (Id id) = None
-name_of (Class class) = None
-name_of (Key key) = None
-name_of (Value key op value folds) = None
-name_of Empty = None
-name_of (May anchor) = None
-
--- the same of the test of the first step
-abbrev pub name_in : List Step → Option Ident
-name_in steps = option_and_then name_of (option_and_then test_in (slice_get steps 0))
-
--- it asks for a name that has this number in lower case
-abbrev pub BeginsWith : ElementName → List Step → Type 0
-BeginsWith known steps = IsSomeAnd (name_in steps) (λ name. known ≡ number_of name.lower.items)
+-- the test of the first step
+abbrev pub first_test : List Step → Option Test
+first_test steps = option_and_then test_in (slice_get steps 0)
 
 -- a step asks for a test, or keeps it
 
@@ -66,3 +46,11 @@ pub record IsCompound (steps : List Step) : Type 0 where
 abbrev pub HoldsAt : Page → List Step → ℕ → ℕ → Type 0
 HoldsAt page steps place n =
     IfSome (option_and_then test_in (slice_get steps place)) (λ t. Holds page (Is (test t)) n)
+
+-- the tests from a place on pass at the element of a number
+abbrev pub HoldFrom : Page → List Step → ℕ → ℕ → Type 0
+HoldFrom page steps from n = (place : ℕ) → from ≤ place → HoldsAt page steps place n
+
+-- the tests below a place pass
+abbrev pub HoldBelow : Page → List Step → ℕ → ℕ → Type 0
+HoldBelow page steps n end = (place : ℕ) → place < end → HoldsAt page steps place n

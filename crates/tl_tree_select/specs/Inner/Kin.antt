@@ -1,11 +1,13 @@
 -- Links between the rows of a page.
-use Rattle.std.specs.Prelude.{◌≡◌, ◌↔◌, ◌<◌, ℕ, ◌+◌, Bool, true, false, if◌then◌else◌, List, length, Option, None, Some, IfSome, option_and_then, option_map, ⊤}
+use Rattle.std.specs.Prelude.{◌≡◌, ◌↔◌, ◌<◌, ℕ, ◌+◌, ◌&&◌, Bool, true, false, not, if◌then◌else◌, List, length, Option, None, Some, IfSome, option_and_then, option_map, ⊤}
 use Rattle.std.specs.List.{All, list_any}
 use Rattle.std.specs.Option.{option_map_or}
 use Rattle.tl_css.specs.declared.selector.Link.{Link}
 use Rattle.tl_css.specs.declared.selector.Link.TheVariants.{Parent, Sibling, Twin}
 use Rattle.tl_css.specs.declared.selector.Step.{Step}
 use Rattle.tl_css.specs.declared.selector.Step.TheVariants.{Ask, Keep, Turn, Meet, Unite, Shift, Count}
+use Rattle.tl_css.specs.declared.selector.Way.{Way}
+use Rattle.tl_css.specs.declared.selector.Way.TheVariants.{From, To}
 use Rattle.tl_dom_spec.specs.Tags as dom
 use Rattle.tl_tree.specs.Asked.{node_at, parent_at}
 use Rattle.tl_tree_select.specs.declared.kin.Kin.{Kin}
@@ -63,9 +65,17 @@ links_of kin Parent = kin.parents.items
 links_of kin Sibling = kin.siblings.items
 links_of kin Twin = kin.twins.items
 
+-- links of parents that lead on from a row are read from the rows, and not kept
+abbrev pub is_read : Way → Link → Bool
+is_read From Parent = true
+is_read From Sibling = false
+is_read From Twin = false
+is_read To link = false
+
 -- the links that a step follows are there
 abbrev pub HasLinks : Page → Kin → Step → Type 0
-HasLinks page kin (Shift way link reach) = AreLinksOf page link (links_of kin link)
+HasLinks page kin (Shift way link reach) =
+    is_read way link ≡ false → AreLinksOf page link (links_of kin link)
 HasLinks page kin (Count way link formula) = AreLinksOf page link (links_of kin link)
 HasLinks page kin (Ask test) = ⊤
 HasLinks page kin (Keep test) = ⊤
@@ -83,9 +93,9 @@ is_same Sibling Sibling = true
 is_same Twin Twin = true
 is_same _ _ = false
 
--- whether a step follows links of this kind
+-- whether a step follows links of this kind that are kept
 abbrev pub follows : Link → Step → Bool
-follows link (Shift way own reach) = is_same own link
+follows link (Shift way own reach) = not (is_read way own) && is_same own link
 follows link (Count way own formula) = is_same own link
 follows link _ = false
 

@@ -1,4 +1,4 @@
-use Rattle.std.proofs.Common.{◌≡◌, length, arith}
+use Rattle.std.proofs.Common.{arith}
 use Rattle.tl_css.specs.Selector.{Both, Is}
 use Rattle.tl_css.specs.View.{test}
 use Rattle.tl_tree_select.specs.Page.{seen}
@@ -8,9 +8,10 @@ use Rattle.tl_tree_select.proofs.columns.test_marks_among.Goals as goal
 pub returns : goal.returns
 returns c e are =
     let page = seen c.args.page.now in
-    let all : c.loop-number.number ≡ length (seen c.args.page.now).rows = omega arith in
-    let len = c.loop-number.invariant.len in
-    marks_within page (Both e (Is (test c.args.test.now))) c.loop-number.marks.items (omega (arith, all, len))
+    let len = are.len in
+    let inv = c.loop-number.invariant in
+    let same = inv.len in
+    marks_within page (Both e (Is (test c.args.test.now))) c.loop-number.among.items (omega (arith, same, len))
     (λ n w.
-    let each = c.loop-number.invariant.each n (omega (arith, all, w)) in
+    let each = inv.done n (omega (arith, w, same, len)) in
     (λ mark. (let h = each.0 mark in ((are.each n).0 h.0, h.1)), λ h. each.1 ((are.each n).1 h.0, h.1)))

@@ -1,4 +1,4 @@
-use Rattle.std.proofs.Common.{◌≡◌, ◌↔◌, ◌<◌, ℕ, length, true}
+use Rattle.std.proofs.Common.{◌≡◌, ◌↔◌, ◌<◌, ◌≤◌, ℕ, length, true}
 use Rattle.tl_tree_select.specs.Page.{seen}
 use Rattle.tl_tree_select.specs.Meaning.{Holds}
 use Rattle.tl_css.specs.Selector.{Is}
@@ -8,6 +8,7 @@ use Rattle.tl_tree_select.proofs.columns.test_marks_among.Given as goal
 
 abbrev pub invariant-loop-number : goal.invariant-loop-number
 invariant-loop-number l = record {
-  len : length l.marks.items ≡ l.number;
-  each : (n : ℕ) → n < l.number → (is_at l.marks.items n ≡ true) ↔ ((is_at l.among n ≡ true) × Holds (seen l.page) (Is (test l.test)) n);
+  len : length l.among.items ≡ length l.fn.among.items;
+  done : (n : ℕ) → n < l.number → (is_at l.among.items n ≡ true) ↔ ((is_at l.fn.among.items n ≡ true) × Holds (seen l.page) (Is (test l.test)) n);
+  left : (n : ℕ) → l.number ≤ n → is_at l.among.items n ≡ is_at l.fn.among.items n;
 }

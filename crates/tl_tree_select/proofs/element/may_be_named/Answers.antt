@@ -1,7 +1,6 @@
-use Rattle.std.proofs.Common.{◌≡◌, ◌∙◌, ap, refl, rules, sym, true, ℕ}
+use Rattle.std.proofs.Common.{◌≡◌, ◌∙◌, ap, rules, sym, true}
 use Rattle.std.proofs.lemmas.Bool.{eq-eqb}
-use Rattle.std.specs.Option.{option_and_then, option_map}
-use Rattle.tl_names.specs.ElementNames.{name_of as element_name_of}
+use Rattle.std.specs.Option.{option_and_then}
 use Rattle.tl_names.specs.declared.element_name.ElementName.{ElementName}
 use Rattle.tl_tree.specs.Asked.{name_of, node_at}
 use Rattle.tl_tree_select.specs.Meaning.{is_html_at, spelled}

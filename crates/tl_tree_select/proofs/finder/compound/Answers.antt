@@ -1,14 +1,21 @@
-use Rattle.std.proofs.Common.{◌≡◌, ◌∙◌, Option, ap, refl, subst, sym}
-use Rattle.std.specs.Option.{IsSomeAnd, option_copied}
-use Rattle.tl_css.specs.declared.selector.Ident.{Ident}
-use Rattle.tl_names.specs.ElementNames.{name_of}
+use Rattle.std.proofs.Common.{◌≡◌, ◌∙◌, Some, ap, refl, subst, sym, ℕ}
+use Rattle.std.specs.Option.{option_copied}
+use Rattle.tl_tree_select.specs.Inner.Compound.{HoldBelow, first_test}
+use Rattle.tl_tree_select.specs.Page.{seen}
+use Rattle.tl_tree_select.proofs.Looks.{asked_hold, first_holds, first_passes}
 use Rattle.tl_tree_select.proofs.finder.compound.Goals as goal
 
-pub returns-in-Some : goal.returns-in-Some
-returns-in-Some c page =
-    let P : Ident → Type 0 = λ name. c.of.result ≡ name_of name.lower.items in
-    let own = c.of.ensures ∙ ap name_of c.deref.ensures.value in (
+pub returns : goal.returns
+returns c =
+    let page = seen c.args.page.now in
+    let steps = c.args.steps.now in
+    let test = c.in-Some.test.now in
+    let is : Some test ≡ first_test steps = sym (ap option_copied c.in-Some.is) ∙ c.first_test.ensures in (
       c.requires,
       refl,
-      subst (λ (o : Option Ident). IsSomeAnd o P) c.name_in.ensures (subst (λ o. IsSomeAnd (option_copied o) P) (sym c.in-Some.is) own),
+      λ n h. c.of-passes.ensures.seen n (first_holds page n steps test c.requires is h),
+      λ n own. subst (λ (asked : ℕ). HoldBelow page steps n asked) (sym c.one_if.ensures)
+          (asked_hold page n steps c.of-passes.result.1 (λ yes.
+          let enough = c.of-passes.ensures.passes yes in
+          first_passes page n steps test is (enough.holds n (own enough.exact)))),
     )

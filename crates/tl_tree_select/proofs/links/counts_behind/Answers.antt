@@ -1,5 +1,5 @@
 use Rattle.std.proofs.Common.{◌≡◌, ◌+◌, ◌-◌, ℕ, List, arith, rules, subst, sym}
-use Rattle.tl_tree_select.proofs.Behind.{Gathered, none_gathered, one_gathered, all_gathered, fits}
+use Rattle.tl_tree_select.proofs.Backwards.{Gathered, none_gathered, one_gathered, all_gathered, fits}
 use Rattle.tl_tree_select.proofs.links.counts_behind.Goals as goal
 
 pub down-init : goal.down-init

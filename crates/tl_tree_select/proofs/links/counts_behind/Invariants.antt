@@ -1,4 +1,4 @@
-use Rattle.tl_tree_select.proofs.Behind.{Gathered}
+use Rattle.tl_tree_select.proofs.Backwards.{Gathered}
 use Rattle.tl_tree_select.proofs.links.counts_behind.Given as goal
 
 abbrev pub invariant-down : goal.invariant-down

@@ -7,11 +7,8 @@ use Rattle.tl_tree_select.proofs.Numbers.{all_below, none_below_row}
 use Rattle.tl_tree_select.proofs.Trees.{ends_behind}
 use Rattle.tl_tree_select.proofs.search.below.Goals as goal
 
-pub found-requires-clause-finds : goal.found-requires-clause-finds
-found-requires-clause-finds c = (c.args.selector.now, c.in_ok-finder.ensures)
-
-pub found-requires-clause-rises : goal.found-requires-clause-rises
-found-requires-clause-rises c =
+pub found-requires : goal.found-requires
+found-requires c =
     let at : end_at (rows_in c.args.tree.now) c.args.number ≡ Some c.in-Some.end = search rules in
     let behind = ends_behind c.args.tree.now c.args.number c.in-Some.end at in
     omega (arith, behind)

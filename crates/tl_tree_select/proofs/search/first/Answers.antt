@@ -1,37 +1,25 @@
-use Rattle.std.proofs.Common.{◌≡◌, ◌∙◌, arith, false, rules, sym, true}
-use Rattle.std.proofs.lemmas.Bool.{false≢true}
+use Rattle.std.proofs.Common.{◌≡◌, ◌<◌, ◌≤◌, None, Option, Some, arith, rules, subst, ℕ}
+use Rattle.std.specs.Prelude.{MatchOption}
+use Rattle.tl_tree_select.specs.Inner.Finding.{IsFoundFrom, IsNext}
 use Rattle.tl_tree_select.specs.Page.{page_of}
-use Rattle.tl_tree_select.proofs.Contents.{found_nowhere, from_front, is_first, none_ends, none_more, none_yet}
+use Rattle.tl_tree_select.specs.declared.passing.Place.{Place}
+use Rattle.tl_tree_select.proofs.Contents.{found_nowhere, is_first, none_ends}
 use Rattle.tl_tree_select.proofs.search.first.Goals as goal
 
-pub loop-number-init : goal.loop-number-init
-loop-number-init c = record {
-  finds = c.in_ok-finder.ensures;
-  ends = none_ends (page_of c.args.tree.now) 0;
-  none = none_yet (page_of c.args.tree.now) c.args.selector.now;
-}
-
-pub is_found-requires : goal.is_found-requires
-is_found-requires c = (c.args.selector.now, c.loop-number.invariant.finds)
-
-pub returns-then-found : goal.returns-then-found
-returns-then-found c =
+pub returns-in_default : goal.returns-in_default
+returns-in_default c =
     let page = page_of c.args.tree.now in
-    let passes : c.in_ok-found.found ≡ true = search rules in
-    let found = c.in_ok-found.ensures c.args.selector.now 0 c.loop-number.invariant.finds (omega arith) c.loop-number.invariant.ends in
-    is_first page c.args.selector.now c.loop-number.number ((from_front page c.args.selector.now c.loop-number.number).0 (found.0 passes)) c.loop-number.invariant.none
-
-pub loop-number-preserved : goal.loop-number-preserved
-loop-number-preserved c =
-    let page = page_of c.args.tree.now in
-    let fails : c.in_ok-found.found ≡ false = search rules in
-    let found = c.in_ok-found.ensures c.args.selector.now 0 c.loop-number.invariant.finds (omega arith) c.loop-number.invariant.ends in
-    record {
-      finds = c.loop-number.invariant.finds;
-      ends = c.end_of_contents-behind.ensures 0 (omega arith) c.loop-number.invariant.ends;
-      none = none_more page c.args.selector.now c.loop-number.number
-          (λ p. false≢true (sym fails ∙ found.1 ((from_front page c.args.selector.now c.loop-number.number).1 p))) c.loop-number.invariant.none;
-    }
+    let e = c.args.selector.now in
+    let is : c.in_ok-next.next ≡ None = search rules in
+    found_nowhere page e c.len.result c.len.ensures
+    (subst (λ (o : Option Place). MatchOption o ((n : ℕ) → 0 ≤ n → n < c.len.result → IsFoundFrom page e 0 n → ⊥) (IsNext page e 0 0 c.len.result)) is
+    (c.in_ok-next.ensures.next e 0 c.in_ok-finder.ensures (c.look.ensures page e c.in_ok-finder.ensures) (omega arith, none_ends page 0)))
 
 pub returns : goal.returns
-returns c = found_nowhere (page_of c.args.tree.now) c.args.selector.now c.loop-number.number (omega arith) c.loop-number.invariant.none
+returns c =
+    let page = page_of c.args.tree.now in
+    let e = c.args.selector.now in
+    let is : c.in_ok-next.next ≡ Some c.in-Some.at = search rules in
+    is_first page e c.len.result c.in-Some.at
+    (subst (λ (o : Option Place). MatchOption o ((n : ℕ) → 0 ≤ n → n < c.len.result → IsFoundFrom page e 0 n → ⊥) (IsNext page e 0 0 c.len.result)) is
+    (c.in_ok-next.ensures.next e 0 c.in_ok-finder.ensures (c.look.ensures page e c.in_ok-finder.ensures) (omega arith, none_ends page 0)))

@@ -1,7 +1,6 @@
-use Rattle.std.proofs.Common.{◌≡◌, ◌∙◌, ◌<◌, ◌+◌, IfSome, None, Option, Some, arith, false, inl, refl, rules, subst, sym, true, ℕ}
+use Rattle.std.proofs.Common.{◌≡◌, ◌∙◌, ◌<◌, ◌+◌, IfSome, None, Option, false, inl, refl, rules, subst, sym, true, ℕ}
 use Rattle.std.proofs.lemmas.Bool.{false≢true}
 use Rattle.std.specs.Option.{option_map_or}
-use Rattle.tl_css.specs.Selector.{Css}
 use Rattle.tl_css.specs.declared.selector.Link.TheVariants.{Parent}
 use Rattle.tl_css.specs.declared.selector.Way.TheVariants.{From}
 use Rattle.tl_tree_select.specs.Inner.Finding.{LeadsTo}

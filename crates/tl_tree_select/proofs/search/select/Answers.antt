@@ -4,9 +4,6 @@ use Rattle.tl_tree_select.specs.Page.{page_of}
 use Rattle.tl_tree_select.proofs.Numbers.{all_found}
 use Rattle.tl_tree_select.proofs.search.select.Goals as goal
 
-pub found-requires-clause-finds : goal.found-requires-clause-finds
-found-requires-clause-finds c = (c.args.selector.now, c.in_ok-finder.ensures)
-
 pub returns : goal.returns
 returns c =
     let page = page_of c.args.tree.now in

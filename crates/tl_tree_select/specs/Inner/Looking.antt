@@ -1,0 +1,39 @@
+-- Quick looks at rows.
+use Rattle.std.specs.Prelude.{◌≡◌, ◌≤◌, ℕ, Bool, codes, false, length, true, ⊤}
+use Rattle.tl_css.specs.Selector.{Css, Ident}
+use Rattle.tl_css.specs.View.{ident}
+use Rattle.tl_css.specs.declared.selector.Op.TheVariants.{Word}
+use Rattle.tl_names.specs.ElementNames.{name_of as number_of}
+use Rattle.tl_tree_select.specs.Inner.Links.{is_at}
+use Rattle.tl_tree_select.specs.Meaning.{HasValue, Holds, IsElement, IsNamed, Passes, is_html_at, spelled}
+use Rattle.tl_tree_select.specs.Page.{Page}
+use Rattle.tl_tree_select.specs.declared.look.Look.{Look}
+use Rattle.tl_tree_select.specs.declared.look.Look.TheVariants as l
+
+-- a row has what is looked for
+abbrev pub IsSeen : Page → Look → ℕ → Type 0
+IsSeen page (l.Name known) n =
+    (name : Ident) × (known ≡ number_of name.lower) × IsNamed page name n
+IsSeen page (l.Value key len) n = HasValue page (λ own. len ≤ length own) key.now n
+IsSeen page (l.Id id) n = IsElement page n × HasValue page (λ own. own ≡ id.now) (codes "id") n
+IsSeen page (l.Class class) n =
+    IsElement page n × HasValue page (Passes Word class.now) (codes "class") n
+IsSeen page (l.Key key) n =
+    IsElement page n × HasValue page (λ own. ⊤) (spelled (is_html_at page n) (ident key.now)) n
+IsSeen page l.Element n = IsElement page n
+IsSeen page (l.Mark marks) n = is_at marks.now n ≡ true
+
+-- a look that sees only what is there
+abbrev pub is_exact : Look → Bool
+is_exact (l.Name known) = false
+is_exact (l.Value key len) = false
+is_exact (l.Id id) = true
+is_exact (l.Class class) = true
+is_exact (l.Key key) = true
+is_exact l.Element = false
+is_exact (l.Mark marks) = false
+
+-- a selector holds wherever this is seen, and no more is seen than is there
+pub record IsEnough (page : Page) (look : Look) (e : Css) : Type 0 where
+  pub exact : is_exact look ≡ true
+  pub holds : (n : ℕ) → IsSeen page look n → Holds page e n
