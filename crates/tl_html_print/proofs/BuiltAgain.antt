@@ -26,17 +26,18 @@ use Rattle.tl_html_print.specs.Places.{a_node, outer_at, places}
 use Rattle.tl_html_print.specs.ReadAgain.{CanBeReadAgain, attribute_read, end_tokens, lowered, tokens_of_trees, unless_empty}
 use Rattle.tl_html_print.specs.Serialized.{end_tag, escaped, is_literal_in, parent_below, serialized, start_tag, unless_void}
 use Rattle.tl_html_spec.proofs.Fold.{all_stays, feeds_read}
-use Rattle.tl_html_spec.specs.Balanced.{is_one_of, words}
+use Rattle.tl_html_spec.specs.Balanced.{is_one_of, is_raw, words}
 use Rattle.tl_html_spec.specs.Driven.{Emission, bare, doctype_of, plain}
 use Rattle.tl_html_spec.specs.HtmlTokenizer.{Character, CommentToken, DoctypeToken, EndTag, HtmlAttribute, HtmlToken, StartTag, data_state, tokens_from, tokens_in_page, with_feeds}
 use Rattle.tl_html_spec.specs.Reader.{at, tokens_of}
 use Rattle.tl_html_spec.specs.Sound.{IsSome}
 use Rattle.tl_spec.specs.Lex.ByteClass as C
 use Rattle.tl_spec.specs.Tree.Forest.{comment, none, tag, text}
-use Rattle.tl_tree_spec.proofs.Trees.{stays_exactly, stays_without_search}
+use Rattle.tl_tree_spec.proofs.Texts.{normal}
+use Rattle.tl_tree_spec.proofs.Trees.{stays, stays_without_search}
 use Rattle.tl_tree_spec.specs.Builder.{is_flow, mode_of}
 use Rattle.tl_tree_spec.specs.Groups.{Group, elsewhere, group, misplaced}
-use Rattle.tl_tree_spec.specs.HtmlForest.{HtmlForest, HtmlTag, begins_with_text, html_tokens_of, is_empty, is_normal}
+use Rattle.tl_tree_spec.specs.HtmlForest.{HtmlForest, HtmlTag, begins_with_text, html_tokens_of, is_empty, is_normal, normal_form}
 use Rattle.tl_tree_spec.specs.HtmlTreeBuilder.{html_trees_where}
 use Rattle.tl_tree_spec.specs.Stays.{is_alone, is_none, is_preformatted, begins_line, may_be_read, may_stand, stands, stay}
 
@@ -103,7 +104,7 @@ first_of : (a b : Bool) → a || b ≡ true → b ≡ false → a ≡ true
 first_of true b h k = refl
 first_of false b h k = absurd (true≢false (sym h ∙ k))
 
-void_same : (names : List (List ℕ)) (n : List ℕ) → may_stand names n ≡ true → is_void_name n ≡ C.is_void n
+pub void_same : (names : List (List ℕ)) (n : List ℕ) → may_stand names n ≡ true → is_void_name n ≡ C.is_void n
 unfolding is_nowhere_group
 void_same names n h = elim (cases_Bool (is_void_name n)) [
   | inl y ↦ y ∙ sym (first_of (C.is_void n) (is_nowhere n) (listed void_or_nowhere (words L.void_names) n refl y) (not_nowhere names n h))
@@ -126,6 +127,20 @@ none_of_five false true c d e f g h = cc
 none_of_five false false true d e f g h = cc
 none_of_five false false false true e f g h = cc
 
+none_of_three : (a b c : Bool) → a ≡ false → b ≡ false → c ≡ false → (a || b) || c ≡ false
+none_of_three false false false e f g = refl
+none_of_three true b c e f g = cc
+none_of_three false true c e f g = cc
+none_of_three false false true e f g = cc
+
+-- what may stand holds markup
+pub standing_is_markup : (names : List (List ℕ)) (n : List ℕ) → may_stand names n ≡ true → is_raw n ≡ false
+unfolding is_nowhere_group
+standing_is_markup names n h =
+    let k = not_nowhere names n h in
+    none_of_three (is_among rcdata_names n) (is_among rawtext_names n) (is_one_of (codes "script plaintext") n)
+    (no_list rcdata_names n refl k) (no_list rawtext_names n refl k) (no_list (words (codes "script plaintext")) n refl k)
+
 -- with scripting off
 abbrev by : Bool → Flags
 by counts_search = record standard { counts_search = counts_search }
@@ -140,7 +155,7 @@ plain_standing v names n h =
 -- The tokens of trees that stay
 
 -- names and keys are in lower case
-abbrev EachIsLow : List HtmlAttribute → Type 0
+abbrev pub EachIsLow : List HtmlAttribute → Type 0
 EachIsLow [] = ⊤
 EachIsLow (a ∷ attributes) = (lowered a.0 ≡ a.0) × EachIsLow attributes
 
@@ -250,15 +265,16 @@ html_doctypes (plain DoctypeToken ∷ es) h = absurd h
 
 -- The trees
 
-trees_where : (v : Bool) (f : HtmlForest) → stay (codes "html" ∷ []) f ≡ true → is_normal f ≡ true → html_trees_where v (html_tokens_of f) ≡ Some f
-trees_where true f h n = stays_exactly f h n
-trees_where false f h n = stays_without_search f h ∙ stays_exactly f h n
+trees_where : (v : Bool) (f : HtmlForest) → stay (codes "html" ∷ []) f ≡ true → html_trees_where v (html_tokens_of f) ≡ Some (normal_form f)
+trees_where true f h = stays f h
+trees_where false f h = stays_without_search f h ∙ stays f h
 
 in_page : (bytes : List ℕ) → tokens_of (at data_state) bytes ≡ tokens_in_page bytes
 in_page bytes = feeds_read false data_state bytes ∙ ap (λ t. tokens_from data_state (with_feeds t)) (all_stays bytes)
 
-pub built_again : (v : Bool) (trees : D.HtmlForest) (f : HtmlForest) → without_numbers trees ≡ whole f → CanBeReadAgain trees → AreLow f → stay (codes "html" ∷ []) f ≡ true → is_normal f ≡ true → without_numbers (built_in_div v (serialized false None trees)) ≡ without_numbers trees
-built_again v trees f e c l h n =
+-- texts that stand side by side are one text then
+pub built_joined : (v : Bool) (trees : D.HtmlForest) (f : HtmlForest) → without_numbers trees ≡ whole f → CanBeReadAgain trees → AreLow f → stay (codes "html" ∷ []) f ≡ true → without_numbers (built_in_div v (serialized false None trees)) ≡ whole (normal_form f)
+built_joined v trees f e c l h =
     let print = serialized false None trees in
     let read : tokens_in_page print ≡ html_tokens_of f =
     sym (in_page print)
@@ -272,8 +288,10 @@ built_again v trees f e c l h n =
     let doctypes = html_doctypes (driven_by_names print) (subst HaveNoDoctype (sym (named_tokens print ∙ read)) (no_doctype f)) in
     ap without_numbers (bare_fragment (by v) (context_of (bare_tag (codes "div"))) print refl refl named doctypes)
     ∙ ap (λ ts. without_numbers (fragment_of_tokens (by v) (context_of (bare_tag (codes "div"))) ts)) read
-    ∙ partial_is_whole v (html_tokens_of f) f (trees_where v f h n)
-    ∙ sym e
+    ∙ partial_is_whole v (html_tokens_of f) (normal_form f) (trees_where v f h)
+
+pub built_again : (v : Bool) (trees : D.HtmlForest) (f : HtmlForest) → without_numbers trees ≡ whole f → CanBeReadAgain trees → AreLow f → stay (codes "html" ∷ []) f ≡ true → is_normal f ≡ true → without_numbers (built_in_div v (serialized false None trees)) ≡ without_numbers trees
+built_again v trees f e c l h n = built_joined v trees f e c l h ∙ ap whole (normal f n) ∙ sym e
 
 -- names and keys of pages are in lower case
 

@@ -3,6 +3,8 @@ pub mod Escapes
 pub mod Printing
 pub mod Forests
 pub mod Located
+pub mod Laid
+pub mod PrettyTrees
 pub mod Reread
 pub mod RereadTexts
 pub mod RereadComments

@@ -102,7 +102,7 @@ markup_state name n =
     let h = neither_of_three (is_among rcdata_names name) (is_among rawtext_names name) (bytes_eq name (codes "script")) (bytes_eq name (codes "plaintext")) n in
     none_of (is_among rcdata_names name) (is_among rawtext_names name) (bytes_eq name (codes "script")) (bytes_eq name (codes "plaintext")) _ _ _ _ data_state h.0 h.1 h.2 h.3
 
-markup_held : (tag : Tag) → is_raw (lowered tag.name) ≡ false → HoldsMarkup tag
+pub markup_held : (tag : Tag) → is_raw (lowered tag.name) ≡ false → HoldsMarkup tag
 markup_held tag n = (markup_state (lowered tag.name) n, not_literal tag n)
 
 -- Elements that hold a text

@@ -9,6 +9,7 @@ use Rattle.tl_dom_spec.specs.Marks.{unmarked}
 use Rattle.tl_dom_spec.specs.Tags.{AttributeSpace, bare_tag}
 use Rattle.tl_html_print.specs.Again.{is_read_again}
 use Rattle.tl_html_print.specs.Places.{inner_at, outer_at}
+use Rattle.tl_html_print.specs.Pretty.{pretty}
 use Rattle.tl_html_print.specs.Serialized.{escaped, serialized, serialized_attribute}
 
 -- the trees of a page, printed
@@ -62,3 +63,13 @@ holding name bytes =
 abbrev pub keyed : AttributeSpace → String → String → List ℕ
 keyed space key value =
     serialized_attribute (record { space = space; key = codes key; value = codes value })
+
+-- what the `body` element of a page holds, with lines; and a page
+abbrev pub lines : String → List ℕ
+lines markup =
+    pretty false
+    (inside_of_first (codes "body")
+    (inside_of_first (codes "html") (html_tree_by standard (codes "<body>" ++ codes markup)).trees))
+
+abbrev pub document_lines : String → List ℕ
+document_lines page = pretty false (html_tree_by standard (codes page)).trees

@@ -10,8 +10,8 @@ use crate::names::{is_literal_name, is_void_name};
 use std::alloc::AllocError;
 use tl_tree::{Namespace, Tree};
 
-// The name of an HTML element.
-fn html_name<'t>(tree: &'t Tree<'_>, number: usize) -> Option<&'t [u8]>
+/// The name of an HTML element.
+pub(crate) fn html_name<'t>(tree: &'t Tree<'_>, number: usize) -> Option<&'t [u8]>
     ensures { option_copied result ≡ html_name_at (rows_in tree.now) number }
 {
     if tree.namespace(number)? != Namespace::Html {

@@ -60,7 +60,7 @@ fn split_mark<'b>(in_attribute: bool, bytes: &'b [u8]) -> (&'b [u8], &'b [u8])
 }
 
 /// Writes characters as a text, or as the value of an attribute.
-pub(crate) fn write_escaped(
+pub fn write_escaped(
     in_attribute: bool,
     characters: &[u8],
     out: &mut Vec<u8>,

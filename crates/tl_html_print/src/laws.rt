@@ -9,6 +9,7 @@ ghost use Rattle.tl_dom_spec.specs.Partial.{whole, without_numbers};
 ghost use Rattle.tl_dom_spec.specs.Tags.{Attribute, Tag};
 ghost use Rattle.tl_html_print.specs.Again.{built_in_div, ends_itself, is_read_again};
 ghost use Rattle.tl_html_print.specs.Places.{a_node, inner_at, outer_at, places};
+ghost use Rattle.tl_html_print.specs.Pretty.{laid_out, without_white};
 ghost use Rattle.tl_html_print.specs.ReadAgain.{CanBeReadAgain, HoldsItself, IsReadAs, end_tokens, html_element, is_kept_in_value, is_plain_comment, is_plain_raw, lowered, tokens_of_trees, unless_empty};
 ghost use Rattle.tl_html_print.specs.Serialized.{end_tag, is_literal_in, parent_below, serialized, serialized_comment, serialized_text};
 ghost use Rattle.tl_html_spec.specs.Balanced.{is_one_of};
@@ -139,4 +140,11 @@ pub fn prints_are_built_again()
         without_numbers
         (built_in_div counts_search (outer_at false (html_tree_by flags page).trees number))
         ≡ without_numbers tree }
+{}
+
+/// A pretty print is that of trees with the same nodes, but for texts of white space.
+#[tactic(auto, using(crate::proofs::PrettyTrees::same_nodes))]
+pub fn pretty_prints_keep_nodes()
+    ensures { (trees : HtmlForest) →
+        without_white (laid_out trees) ≡ without_white trees }
 {}

@@ -9,7 +9,10 @@ mod examples;
 mod laws;
 mod names;
 mod node;
+mod pretty;
 mod print;
 mod rows;
 
+pub use escape::write_escaped;
+pub use pretty::write_pretty;
 pub use print::{write_document, write_inner, write_outer};

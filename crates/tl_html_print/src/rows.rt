@@ -9,8 +9,8 @@ use crate::node::write_node;
 use std::alloc::AllocError;
 use tl_tree::Tree;
 
-// Whether what is below a node ends right before another one.
-fn ends_at(tree: &Tree<'_>, number: usize, next: usize) -> bool
+/// Whether what is below a node ends right before another one.
+pub(crate) fn ends_at(tree: &Tree<'_>, number: usize, next: usize) -> bool
     ensures { result ≡ ends_at (rows_in tree.now) number next }
 {
     match tree.end(number) {
