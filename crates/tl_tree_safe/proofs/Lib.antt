@@ -1,0 +1,13 @@
+pub mod Filters
+pub mod SettledTrees
+pub mod Own
+pub mod Partial
+pub mod Readable
+pub mod ListedTokens
+pub mod OwnKeys
+pub mod Safe
+pub mod Passes
+pub mod KindFacts
+pub mod LevelFacts
+pub mod Whole
+pub mod WrittenAttributes

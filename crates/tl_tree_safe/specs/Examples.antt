@@ -1,0 +1,43 @@
+-- Words for worked rows. No contract cites them.
+use Prim.Native.String.{String}
+use Rattle.std.specs.Prelude.{List, None, [], codes, false, true, ℕ, ◌∷◌}
+use Rattle.tl_dom_spec.specs.HtmlForest.{HtmlForest}
+use Rattle.tl_dom_spec.specs.HtmlTree.{html_fragment}
+use Rattle.tl_dom_spec.specs.Tags.{bare_tag}
+use Rattle.tl_html_print.specs.Serialized.{serialized}
+use Rattle.tl_tree_safe.specs.Kept.{kept}
+use Rattle.tl_tree_safe.specs.KeptFitted.{kept_fitted}
+use Rattle.tl_tree_safe.specs.Lists.{ListedWords}
+
+-- the trees of a text in a `div`
+abbrev pub trees_of : String → HtmlForest
+trees_of markup = html_fragment (bare_tag (codes "div")) (codes markup)
+
+abbrev pub some_lists : ListedWords
+some_lists = record {
+  tags = codes "a" ∷ codes "b" ∷ codes "br" ∷ codes "p" ∷ [];
+  keys = codes "alt" ∷ codes "href" ∷ codes "id" ∷ codes "title" ∷ [];
+  link_keys = codes "href" ∷ [];
+  link_prefixes = codes "https:" ∷ codes "/" ∷ [];
+  relative_links = false;
+  nofollow_links = false;
+  id_prefix = codes "user-";
+}
+
+-- what is kept of a text, printed
+abbrev pub kept_by : ListedWords → String → List ℕ
+kept_by p markup = serialized false None (kept p (trees_of markup))
+
+abbrev pub kept_in : String → List ℕ
+kept_in markup = kept_by some_lists markup
+
+abbrev pub relative_lists : ListedWords
+relative_lists = record some_lists { relative_links = true }
+
+abbrev pub marking_lists : ListedWords
+marking_lists = record some_lists { keys = codes "rel" ∷ some_lists.keys; nofollow_links = true }
+
+-- what is kept by lists of these tags alone, made to stay
+abbrev pub fitted_with : List (List ℕ) → String → List ℕ
+fitted_with tags markup =
+    serialized false None (kept_fitted (record some_lists { tags = tags }) (trees_of markup))

@@ -1,0 +1,5 @@
+-- What the proofs and private functions of this crate cite, and no public clause.
+pub mod Attributes
+pub mod Cleaning
+pub mod Pass
+pub mod Levels

@@ -1,0 +1,11 @@
+pub mod Lists
+pub mod Kept
+pub mod Fitted
+pub mod KeptFitted
+pub mod Policies
+pub mod Settled
+pub mod Joined
+pub mod Listed
+pub mod OwnKeys
+pub mod Examples
+pub mod Inner

@@ -1,0 +1,89 @@
+//! Attributes that stay.
+ghost use Rattle.std.specs.Prelude.{OnOk, flat_map, ◌++◌, ◌≡◌};
+ghost use Rattle.tl_dom_spec.specs.Tags.{plain_attribute};
+ghost use Rattle.tl_html_print.specs.Serialized.{serialized_attribute};
+ghost use Rattle.tl_tree.specs.Asked.{attribute_said, attributes_at};
+ghost use Rattle.tl_tree.specs.TreeView.{rows_in};
+ghost use Rattle.tl_tree_safe.specs.Inner.Attributes.{listed_written, with_value};
+ghost use Rattle.tl_tree_safe.specs.Kept.{cleaned_attribute, is_listed_attribute, kept_attributes};
+ghost use Rattle.tl_tree_safe.specs.Policies.{listed_words};
+
+use crate::clean::{clean, is_clean};
+use crate::lists::Lists;
+use crate::words::is_among;
+use std::alloc::{AllocError, Global};
+use tl_html_print::write_escaped;
+use tl_tree::{Attribute, AttributeSpace, Tree};
+
+// Whether an attribute may stand with a value.
+fn is_listed(lists: &Lists<'_>, attribute: &Attribute<'_>, value: &[u8]) -> bool
+    ensures { result ≡ is_listed_attribute (listed_words lists.now)
+        (with_value (attribute_said attribute.now) value.now) }
+{
+    matches!(attribute.space, AttributeSpace::Plain)
+        && is_among(lists.keys, attribute.key)
+        && lists.lists_value(attribute.key, value)
+}
+
+// Writes a key with its value.
+fn write_pair(key: &[u8], value: &[u8], out: &mut Vec<u8>) -> Result<(), AllocError>
+    ensures { OnOk result (out.new.items
+        ≡ out.old.items ++ serialized_attribute (plain_attribute (key.now, value.now))) }
+{
+    out.push(b' ')?;
+    out.extend_from_slice(key)?;
+    out.extend_from_slice(b"=\"")?;
+    write_escaped(true, value, out)?;
+    out.push(b'"')?;
+    Ok(())
+}
+
+// Writes an attribute with a value, where it may stand.
+fn write_listed(
+    lists: &Lists<'_>,
+    attribute: &Attribute<'_>,
+    value: &[u8],
+    out: &mut Vec<u8>,
+) -> Result<(), AllocError>
+    ensures { OnOk result (out.new.items ≡ out.old.items ++ listed_written
+        (listed_words lists.now) (with_value (attribute_said attribute.now) value.now)) }
+{
+    if !is_listed(lists, attribute, value) {
+        return Ok(());
+    }
+    write_pair(attribute.key, value, out)
+}
+
+// Writes what stays of an attribute.
+fn write_attribute(
+    alloc: Global,
+    lists: &Lists<'_>,
+    attribute: &Attribute<'_>,
+    out: &mut Vec<u8>,
+) -> Result<(), AllocError>
+    ensures { OnOk result (out.new.items ≡ out.old.items ++ listed_written
+        (listed_words lists.now) (cleaned_attribute (attribute_said attribute.now))) }
+{
+    if is_clean(attribute.value) {
+        return write_listed(lists, attribute, attribute.value, out);
+    }
+    let value = clean(alloc, attribute.value)?;
+    write_listed(lists, attribute, &value, out)
+}
+
+/// Writes what stays of the attributes of an element.
+pub fn write_attributes(
+    alloc: Global,
+    lists: &Lists<'_>,
+    tree: &Tree<'_>,
+    number: usize,
+    out: &mut Vec<u8>,
+) -> Result<(), AllocError>
+    ensures { OnOk result (out.new.items ≡ out.old.items ++ flat_map serialized_attribute
+        (kept_attributes (listed_words lists.now) (attributes_at (rows_in tree.now) number))) }
+{
+    for attribute in tree.attributes(number) {
+        write_attribute(alloc, lists, &attribute, out)?;
+    }
+    Ok(())
+}

@@ -1,0 +1,74 @@
+//! Laws of the definitions.
+
+ghost use Rattle.std.specs.Prelude.{Bool, List, None, false, length, nat_le, not, true, ℕ, ◌++◌, ◌∷◌, ◌≡◌, ◌≤◌};
+ghost use Rattle.tl_dom_spec.specs.Builder.{Flags};
+ghost use Rattle.tl_dom_spec.specs.HtmlForest.{HtmlForest, element};
+ghost use Rattle.tl_dom_spec.specs.HtmlTree.{Context, html_fragment_by, html_tree_by};
+ghost use Rattle.tl_dom_spec.specs.Partial.{without_numbers};
+ghost use Rattle.tl_dom_spec.specs.Tags.{Tag};
+ghost use Rattle.tl_html_print.specs.Again.{built_in_div};
+ghost use Rattle.tl_html_print.specs.ReadAgain.{tokens_of_trees};
+ghost use Rattle.tl_html_print.specs.Serialized.{serialized};
+ghost use Rattle.tl_html_spec.specs.HtmlTokenizer.{data_state};
+ghost use Rattle.tl_html_spec.specs.Reader.{at, tokens_of};
+ghost use Rattle.tl_safe_fit.specs.Levels.{most_open};
+ghost use Rattle.tl_spec.specs.Lex.ByteClass.{is_void};
+ghost use Rattle.tl_tree_safe.specs.Fitted.{Names, at_top, fitted, inside};
+ghost use Rattle.tl_tree_safe.specs.Joined.{texts_joined};
+ghost use Rattle.tl_tree_safe.specs.KeptFitted.{kept_fitted};
+ghost use Rattle.tl_tree_safe.specs.Listed.{are_listed};
+ghost use Rattle.tl_tree_safe.specs.Lists.{ListedWords, lists_words};
+ghost use Rattle.tl_tree_safe.specs.OwnKeys.{HaveOwnKeys};
+ghost use Rattle.tl_tree_safe.specs.Settled.{settled};
+ghost use Rattle.tl_tree_spec.specs.Groups.{group};
+ghost use Rattle.tl_tree_spec.specs.Stays.{is_alone, may_stand};
+
+/// What is made to stay is settled: each tag and text may stand where it is. And trees of which
+/// that holds come out as they were.
+#[tactic(auto, using(crate::proofs::SettledTrees::fitted_settled, crate::proofs::SettledTrees::settled_same))]
+pub fn settled_trees_stay_as_they_are()
+    ensures settled { (names : Names) (trees : HtmlForest) →
+        settled names (fitted names trees) ≡ true }
+    ensures same { (names : Names) (trees : HtmlForest) → settled names trees ≡ true →
+        fitted names trees ≡ trees }
+{}
+
+/// A tag is unwrapped only where it may not stand: one that may, and has an end tag where the
+/// standard reads one, stays with its attributes where fewer elements are open than may be.
+#[tactic(auto, using(crate::proofs::SettledTrees::standing_stays))]
+pub fn tags_that_may_stand_stay()
+    ensures { (names : Names) (tag : Tag) (below more : HtmlForest) →
+        may_stand names tag.name ≡ true → is_void tag.name ≡ is_alone (group tag.name) →
+        length names ≤ most_open → fitted names (element tag below more)
+        ≡ element tag (inside tag.name (fitted (tag.name ∷ names) below)) (fitted names more) }
+{}
+
+/// No element of a page or a fragment has a key twice.
+#[tactic(auto, using(crate::proofs::OwnKeys::page_keys, crate::proofs::OwnKeys::fragment_keys))]
+pub fn pages_have_own_keys()
+    ensures page { (flags : Flags) (page : List ℕ) → HaveOwnKeys (html_tree_by flags page).trees }
+    ensures fragment { (flags : Flags) (context : Context) (bytes : List ℕ) →
+        HaveOwnKeys (html_fragment_by flags context bytes) }
+{}
+
+/// Of what is printed of any trees, of what a policy keeps of them and made to stay: the tokenizer
+/// of the standard reads exactly its tags and texts, and then what follows it; its tree
+/// construction builds exactly these trees in a `div`, with texts that stand side by side joined,
+/// but for the numbers of start tags, whether `search` is a special element or not; and all that is
+/// read is listed.
+#[tactic(auto, using(crate::proofs::Safe::read, crate::proofs::Safe::built, crate::proofs::Safe::listed))]
+pub fn kept_trees_that_are_fitted_stay()
+    ensures read { (p : ListedWords) (trees : HtmlForest) (rest : List ℕ) →
+        lists_words p ≡ true → HaveOwnKeys trees →
+        tokens_of (at data_state) (serialized false None (kept_fitted p trees) ++ rest)
+        ≡ tokens_of_trees (kept_fitted p trees) ++ tokens_of (at data_state) rest }
+    ensures built { (counts_search : Bool) (p : ListedWords) (trees : HtmlForest) →
+        lists_words p ≡ true → HaveOwnKeys trees →
+        without_numbers (built_in_div counts_search
+        (serialized false None (kept_fitted p trees)))
+        ≡ without_numbers (texts_joined (kept_fitted p trees)) }
+    ensures listed { (p : ListedWords) (trees : HtmlForest) →
+        lists_words p ≡ true → HaveOwnKeys trees →
+        are_listed p (tokens_of (at data_state) (serialized false None (kept_fitted p trees)))
+        ≡ true }
+{}

@@ -1,0 +1,81 @@
+//! Lists of words, by which it is judged what may stand.
+ghost use Rattle.std.specs.Prelude.{◌≡◌};
+ghost use Rattle.std.specs.List.{list_all, starts_with};
+ghost use Rattle.tl_safe_fit.specs.Words.{is_among};
+ghost use Rattle.tl_tree_safe.specs.Lists.{is_listed_link, is_listed_value, is_own_byte, is_own_name, naming_keys};
+ghost use Rattle.tl_tree_safe.specs.Policies.{listed_words};
+
+use crate::links::{begins_link, has_link_bytes, is_relative};
+use crate::words::is_among;
+
+/// What a policy lists.
+#[derive(Clone, Copy, PartialEq, Eq, Debug)]
+pub struct Lists<'w> {
+    /// The names of tags that may stand.
+    pub tags: &'w [&'w str],
+    /// The keys of attributes that may stand.
+    pub keys: &'w [&'w str],
+    /// The keys whose values are links.
+    pub link_keys: &'w [&'w str],
+    /// What links begin with.
+    pub link_prefixes: &'w [&'w str],
+    /// Whether links beside the page may stand too, as `x.png`: those that begin with no scheme
+    /// and name no host.
+    pub relative_links: bool,
+    /// Whether `rel="nofollow noopener"` is put on each link of `a` and `area`, in place of another
+    /// `rel`. The key `rel` has to be listed then, and not as one that holds links.
+    pub nofollow_links: bool,
+    /// What the values of `id`, `name` and `class` begin with.
+    pub id_prefix: &'w str,
+}
+
+// Whether others refer to the values of a key.
+fn is_naming_key(key: &[u8]) -> bool
+    ensures { result ≡ is_among naming_keys key.now }
+{
+    key == b"id".as_slice() || key == b"name".as_slice() || key == b"class".as_slice()
+}
+
+// Whether a byte stands in a name that others refer to.
+fn is_own_byte(byte: u8) -> bool
+    ensures { result ≡ is_own_byte byte }
+{
+    byte.is_ascii_alphanumeric() || byte == b'-' || byte == b'_'
+}
+
+// Whether all bytes do.
+fn has_own_bytes(value: &[u8]) -> bool
+    ensures { result ≡ list_all is_own_byte value.now }
+{
+    for byte in value {
+        if !is_own_byte(*byte) {
+            return false;
+        }
+    }
+    true
+}
+
+impl<'w> Lists<'w> {
+    // Whether a value is a link that may stand.
+    fn lists_link(&self, value: &[u8]) -> bool
+        ensures { result ≡ is_listed_link (listed_words self.now) value.now }
+    {
+        (begins_link(self.link_prefixes, value) || (self.relative_links && is_relative(value)))
+            && has_link_bytes(value)
+    }
+
+    // Whether a value is one word with the prefix.
+    fn has_prefix(&self, value: &[u8]) -> bool
+        ensures { result ≡ is_own_name (listed_words self.now) value.now }
+    {
+        value.starts_with(self.id_prefix.as_bytes()) && has_own_bytes(value)
+    }
+
+    /// Whether a value, as its characters, may stand at a key.
+    pub fn lists_value(&self, key: &[u8], value: &[u8]) -> bool
+        ensures { result ≡ is_listed_value (listed_words self.now) key.now value.now }
+    {
+        (!is_among(self.link_keys, key) || self.lists_link(value))
+            && (!is_naming_key(key) || self.has_prefix(value))
+    }
+}
