@@ -35,11 +35,15 @@ mod names;
 #[cfg(test)]
 mod page_edits;
 #[cfg(test)]
+mod positions;
+#[cfg(test)]
 mod printed;
 #[cfg(test)]
 mod raw_texts;
 #[cfg(test)]
 mod references;
+#[cfg(test)]
+mod said_nodes;
 #[cfg(test)]
 mod selected;
 #[cfg(test)]

@@ -1,7 +1,7 @@
 //! Trees of pages, and what is printed of them.
 use crate::trees::STANDARD;
 use std::alloc::Global;
-use tl_html_print::{write_document, write_inner, write_outer};
+use tl_html_print::{write_document, write_inner, write_outer, write_pretty};
 use tl_tree::Tree;
 
 // A page, and the print of its document.
@@ -30,6 +30,24 @@ static NODES: [(&[u8], usize, &[u8], &[u8]); 8] = [
     (b"<template>a", 3, b"a", b"a"),
     (b"<!DOCTYPE html>", 0, b"<!DOCTYPE html>", b""),
 ];
+
+// A page, and its print with a tag on each line.
+#[rattlefmt::skip]
+static LINES: [(&[u8], &[u8]); 5] = [
+    (b"<p>a", b"<html>\n  <head></head>\n  <body>\n    <p>a</p>\n  </body>\n</html>"),
+    (b"<ul> <li>a\n<li><b>c</b></ul>", b"<html>\n  <head></head>\n  <body>\n    <ul>\n      <li>a\n</li>\n      <li><b>c</b></li>\n    </ul>\n  </body>\n</html>"),
+    (b"<script>a</script><pre>b\n c", b"<html>\n  <head>\n    <script>a</script>\n  </head>\n  <body>\n    <pre>b\n c</pre>\n  </body>\n</html>"),
+    (b"<!--a--><hr>b", b"<!--a-->\n<html>\n  <head></head>\n  <body>\n    <hr>b</body></html>"),
+    (b"<template><p>a", b"<html>\n  <head>\n    <template><p>a</p></template>\n  </head>\n  <body></body>\n</html>"),
+];
+
+fn has_lines(alloc: Global, page: &[u8], print: &[u8]) -> bool {
+    let Ok(tree) = Tree::read(alloc, page, STANDARD) else {
+        return false;
+    };
+    let mut out = Vec::new(alloc);
+    write_pretty(&tree, false, &mut out).is_ok() && out.as_slice() == print
+}
 
 fn is_printed(alloc: Global, page: &[u8], print: &[u8]) -> bool {
     let Ok(tree) = Tree::read(alloc, page, STANDARD) else {
@@ -69,5 +87,12 @@ fn documents_are_printed(rt: HostRuntime) {
 fn nodes_are_printed(rt: HostRuntime) {
     for (page, number, outer, inner) in &NODES {
         assert!(rt; is_node_printed(rt.alloc(), page, *number, outer, inner));
+    }
+}
+
+#[test]
+fn documents_are_printed_with_lines(rt: HostRuntime) {
+    for (page, print) in &LINES {
+        assert!(rt; has_lines(rt.alloc(), page, print));
     }
 }
