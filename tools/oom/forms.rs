@@ -6,8 +6,9 @@ use std::alloc::Global;
 use tl_encoding::{Encoding, decode};
 use tl_html::{Mode, normalize, normalize_bytes, normalize_with_sources};
 use tl_html_parts::{characters, comment, tag_parts};
-use tl_html_print::write_document;
+use tl_html_print::{write_document, write_pretty};
 use tl_html_write::{coded_name, lower_name, uncoded_name};
+use tl_lines::LineIndex;
 use tl_text::{
     escape_text, escape_value, unescape_text, unescape_text_str, unescape_value, unescape_value_str,
 };
@@ -35,15 +36,17 @@ enum FormCall {
     Tree,
     Fragment,
     Print,
+    Pretty,
+    Lines,
     Decode(Encoding),
 }
 
 // The name of a call, the call, the bytes, and what is made; of a tag its name, of tokens the last
-// one, and of a tree the last text.
+// one, of a tree the last text, and of lines the line and the column of the end.
 type Row = (&'static str, FormCall, &'static [u8], &'static [u8]);
 
 #[rattlefmt::skip]
-static ROWS: [Row; 28] = [
+static ROWS: [Row; 30] = [
     ("escape_text", FormCall::EscapeText, b"a<b&c", b"a&lt;b&amp;c"),
     ("escape_value", FormCall::EscapeValue, b"a\"b", b"a&quot;b"),
     ("unescape_text", FormCall::UnescapeText, b"a&lt;b", b"a<b"),
@@ -72,6 +75,8 @@ static ROWS: [Row; 28] = [
     ("write_document", FormCall::Print, b"<!DOCTYPE html><p a='<&\"'>b &nbsp;<br><script>c<d", b"<!DOCTYPE html><html><head></head><body><p a=\"&lt;&amp;&quot;\">b &nbsp;<br><script>c<d</script></p></body></html>"),
     ("decode, UTF-8", FormCall::Decode(Encoding::Utf8), b"caf\xC3\xA9", b"caf\xC3\xA9"),
     ("decode, windows-1252", FormCall::Decode(Encoding::Windows1252), b"caf\xE9 \x80", b"caf\xC3\xA9 \xE2\x82\xAC"),
+    ("write_pretty", FormCall::Pretty, b"<!DOCTYPE html><div> <p>b <i>c</i></p><pre>d</pre></div>", b"<!DOCTYPE html>\n<html>\n  <head></head>\n  <body>\n    <div>\n      <p>b <i>c</i></p>\n      <pre>d</pre>\n    </div>\n  </body>\n</html>"),
+    ("LineIndex::new", FormCall::Lines, b"a\nb\xC3\xA9", b"\x02\x03"),
 ];
 
 /// A call that reads or writes bytes of a page, if there is one of this number.
@@ -108,8 +113,22 @@ fn made(alloc: Global, call: FormCall, bytes: &[u8]) -> Result<Vec<u8>, Stop> {
         FormCall::NormalizeBytes => Ok(normalize_bytes(alloc, bytes)?),
         FormCall::NormalizeWithSources => Ok(normalize_with_sources(alloc, bytes)?.bytes),
         FormCall::Print => print(alloc, bytes),
+        FormCall::Pretty => pretty(alloc, bytes),
+        FormCall::Lines => lines(alloc, bytes),
         _ => made_of_text(alloc, call, str::from_utf8(bytes).unwrap_or("")),
     }
+}
+
+fn pretty(alloc: Global, page: &[u8]) -> Result<Vec<u8>, Stop> {
+    let tree = Tree::read(alloc, page, FLAGS)?;
+    let mut out = Vec::new(alloc);
+    write_pretty(&tree, FLAGS.is_scripting, &mut out)?;
+    Ok(out)
+}
+
+fn lines(alloc: Global, text: &[u8]) -> Result<Vec<u8>, Stop> {
+    let position = LineIndex::new(alloc, text)?.position(text.len());
+    Ok(Vec::from_slice(alloc, &[position.line as u8, position.column as u8])?)
 }
 
 fn print(alloc: Global, page: &[u8]) -> Result<Vec<u8>, Stop> {

@@ -15,6 +15,7 @@
 //! There is no line, and the status is 2, where there is no such call.
 #![tactic(auto)]
 
+mod asked;
 mod byte_strings;
 mod case;
 mod containers;
@@ -79,6 +80,7 @@ fn call(number: usize, case: &mut Case) -> Option<Named> {
         15 => writes::call(place, case),
         16 => questions::call(place, case),
         17 => policies::call(place, case),
+        18 => asked::call(place, case),
         _ => None,
     }
 }

@@ -66,6 +66,15 @@ impl From<ParseError> for Stop {
     }
 }
 
+impl From<url::ParseError> for Stop {
+    fn from(error: url::ParseError) -> Self {
+        match error {
+            url::ParseError::OutOfMemory => Stop::NoMemory,
+            _ => Stop::WrongError,
+        }
+    }
+}
+
 impl From<TreeError> for Stop {
     fn from(error: TreeError) -> Self {
         match error {

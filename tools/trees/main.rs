@@ -8,22 +8,29 @@
 //! | `without-search` | that `search` isn't counted as a special element |
 //! | `fragment CONTEXT` | that each is a fragment, and its context element: the name of an HTML element, or `svg NAME` or `math NAME` as one word |
 //! | `print` | that prints are written in the place of trees (`prints`) |
+//! | `pretty` | that the print with a tag on each line is written in the place of trees |
 //! | `text` | that the readable text is written in the place of trees |
 //! | `select SELECTOR` | that the elements are asked for where the selector holds: in the place of a tree stands a line with their numbers among the elements of the document, from 0 |
 //! | `table NUMBER` | that the table of this number among those of the document is asked for, from 1 (`parts`) |
 //! | `links` | that the links are asked for (`parts`) |
-//! | `below NUMBER`, `closest NUMBER` | before `select`: that they are asked for below the element of this number, or that the innermost one from it outwards is |
-//! | `time` | that one page is on standard input, which is read alone: what is written is how many nodes it has, or `refused`, and how long the reading and the drop took, in microseconds; with `print` or `text` before it how many bytes that has of the document, and how long it took to write |
+//! | `json` | that the nodes where the selector holds are written as JSON, or else the document (`answers`) |
+//! | `outline` | that the headings are asked for |
+//! | `tabs`, `commas` | that fields of the nodes where the selector holds are asked for in columns (`answers`) |
+//! | `below NUMBER`, `behind NUMBER`, `closest NUMBER` | before `select`: that they are asked for below the element of this number or behind it, or that the innermost one from it outwards is |
+//! | `relative` | before `select`: that its selectors are relative |
+//! | `time` | that one page is on standard input, which is read alone: what is written is how many nodes it has, or `refused`, and how long the reading and the drop took, in microseconds; with `print`, `pretty`, `text`, `json` or another before it how many bytes that has of the document, and how long it took to write |
 //!
 //! The status is 1 where a word or the selector is not understood, 3 where memory runs out, and 4 where reading or
 //! writing fails.
 #![tactic(auto)]
 
+mod answers;
 mod lines;
 mod numbers;
 mod parts;
 mod prints;
 
+use answers::{Answer, put_answer};
 use lines::{NoRoom, put_tree};
 use numbers::{Search, put_numbers};
 use parts::{put_links, put_table};
@@ -34,7 +41,7 @@ use std::io::{Read, Write};
 use std::time::Instant;
 use std::{env, io, mem};
 use tl_css::{Selector, SelectorError};
-use tl_html_print::write_document;
+use tl_html_print::{write_document, write_pretty};
 use tl_tree::{Context, Flags, Namespace, ReadError, Tree};
 use tl_tree_extract::text::write_readable_document;
 
@@ -75,6 +82,7 @@ impl From<io::Error> for Failed {
 struct Asked {
     flags: Flags,
     is_printed: bool,
+    is_pretty: bool,
     is_text: bool,
     is_timed: bool,
     /// The context element of fragments.
@@ -84,7 +92,10 @@ struct Asked {
     /// The number of the table that is asked for.
     table: Option<usize>,
     are_links: bool,
+    answer: Option<Answer>,
     search: Search,
+    /// Whether the selectors are relative.
+    is_relative: bool,
 }
 
 fn main(rt: HostRuntime) -> ExitCode {
@@ -98,7 +109,9 @@ fn run(rt: &HostRuntime) -> Result<(), Failed> {
     let asked = asked(rt)?;
     let mut pages = Vec::new(rt.alloc());
     rt.stdin().read_to_end(&mut pages)?;
-    if asked.is_timed && (asked.is_printed || asked.is_text) {
+    if asked.is_timed
+        && (asked.is_printed || asked.is_pretty || asked.is_text || asked.answer.is_some())
+    {
         return time_written(rt, pages.as_slice(), &asked);
     }
     if asked.is_timed {
@@ -118,13 +131,16 @@ fn asked(rt: &HostRuntime) -> Result<Asked, Failed> {
             counts_search: true,
         },
         is_printed: false,
+        is_pretty: false,
         is_text: false,
         is_timed: false,
         context: None,
         selector: None,
         table: None,
         are_links: false,
+        answer: None,
         search: Search::Document,
+        is_relative: false,
     };
     let mut words = env::args(rt)?.skip(1);
     while let Some(word) = words.next() {
@@ -132,8 +148,13 @@ fn asked(rt: &HostRuntime) -> Result<Asked, Failed> {
             "scripting" => asked.flags.is_scripting = true,
             "without-search" => asked.flags.counts_search = false,
             "print" => asked.is_printed = true,
+            "pretty" => asked.is_pretty = true,
             "text" => asked.is_text = true,
             "links" => asked.are_links = true,
+            "json" => asked.answer = Some(Answer::Json),
+            "outline" => asked.answer = Some(Answer::Outline),
+            "tabs" => asked.answer = Some(Answer::Tabs),
+            "commas" => asked.answer = Some(Answer::Commas),
             "table" => match words.next() {
                 Some(number) => asked.table = number.as_str().parse::<usize>().ok(),
                 None => return Err(Failed::NotUnderstood),
@@ -144,12 +165,18 @@ fn asked(rt: &HostRuntime) -> Result<Asked, Failed> {
                 None => return Err(Failed::NotUnderstood),
             },
             "below" => asked.search = Search::Below(number(words.next())?),
+            "behind" => asked.search = Search::Behind(number(words.next())?),
+            "relative" => asked.is_relative = true,
             "closest" => asked.search = Search::Closest(number(words.next())?),
             "select" => {
                 let Some(text) = words.next() else {
                     return Err(Failed::NotUnderstood);
                 };
-                asked.selector = Some(tl_css::parse(rt.alloc(), text.as_str())?);
+                asked.selector = Some(if asked.is_relative {
+                    tl_css::parse_relative(rt.alloc(), text.as_str())?
+                } else {
+                    tl_css::parse(rt.alloc(), text.as_str())?
+                });
             }
             _ => return Err(Failed::NotUnderstood),
         }
@@ -212,15 +239,24 @@ fn time_written(rt: &HostRuntime, page: &[u8], asked: &Asked) -> Result<(), Fail
     };
     let mut out = Vec::new(rt.alloc());
     let start = Instant::now(rt)?;
-    let written = if asked.is_text {
-        write_readable_document(&tree, &[], &mut out)
-    } else {
-        write_document(&tree, asked.flags.is_scripting, &mut out)
-    };
+    put_timed(rt.alloc(), &mut out, &tree, asked)?;
     let taken = start.elapsed(rt)?.as_micros();
-    written.map_err(NoRoom::from)?;
     println!(rt; "{} {}", out.len(), taken)?;
     Ok(())
+}
+
+fn put_timed(
+    alloc: Global,
+    out: &mut Vec<u8>,
+    tree: &Tree<'_>,
+    asked: &Asked,
+) -> Result<(), NoRoom> {
+    match asked.answer {
+        Some(answer) => put_answer(alloc, out, tree, answer, asked.selector.as_ref()),
+        None if asked.is_text => Ok(write_readable_document(tree, &[], out)?),
+        None if asked.is_pretty => Ok(write_pretty(tree, asked.flags.is_scripting, out)?),
+        None => Ok(write_document(tree, asked.flags.is_scripting, out)?),
+    }
 }
 
 // What is asked for of each page, with the separator after it.
@@ -242,9 +278,14 @@ fn put_asked(
     tree: &Tree<'_>,
     asked: &Asked,
 ) -> Result<(), NoRoom> {
+    if let Some(answer) = asked.answer {
+        return put_answer(alloc, out, tree, answer, asked.selector.as_ref());
+    }
     match &asked.selector {
         Some(selector) => put_numbers(alloc, out, tree, selector, asked.search),
         None if asked.is_text => Ok(write_readable_document(tree, &[], out)?),
+        None if asked.is_pretty => Ok(write_pretty(tree, asked.flags.is_scripting, out)?),
+        None if asked.is_pretty => Ok(write_pretty(tree, asked.flags.is_scripting, out)?),
         None if asked.are_links => put_links(alloc, out, tree),
         None if asked.table.is_some() => put_table(alloc, out, tree, asked.table.unwrap_or(0)),
         None if asked.is_printed => put_prints(out, tree, asked.flags.is_scripting),

@@ -11,6 +11,7 @@ use tl_tree::Tree;
 pub enum Search {
     Document,
     Below(usize),
+    Behind(usize),
     Closest(usize),
 }
 
@@ -27,6 +28,10 @@ fn found(
         Search::Below(number) => {
             let from = elements[number % elements.len()];
             Ok(tl_tree_select::below(alloc, tree, from, selector)?)
+        }
+        Search::Behind(number) => {
+            let from = elements[number % elements.len()];
+            Ok(tl_tree_select::behind(alloc, tree, from, selector)?)
         }
         Search::Closest(number) => {
             let mut numbers = Vec::new(alloc);
