@@ -6,6 +6,7 @@
     ./x compare html --trees FOLDER [--runs N] [--seed N]
     ./x compare html --code [--chromium] [--trees FOLDER] [--runs N] [--seed N] [--page FILE..] [--program FILE]
     ./x compare html --prints [--chromium] [--runs N] [--seed N] [--program FILE]
+    ./x compare html --pretty [--chromium] [--runs N] [--seed N] [--page FOLDER..] [--program FILE]
     ./x compare html --select [--runs N] [--seed N] [--program FILE]
     ./x compare html --text --page FILE.. [--program FILE]
     ./x compare html --tables [--runs N] [--seed N] [--page FOLDER..] [--program FILE]
@@ -31,7 +32,8 @@ one another on made-up ones. Tests that are older than a rule are named with it.
 made-up pages. With --code the trees of `crates/tl_tree` are compared with the model on made-up pages and fragments and on files, and with the tests
 in the folder, or with --chromium with Chromium on made-up pages: those that the program of tools/trees writes, built unproved, unless
 --program names one. With --prints what `crates/tl_html_print` prints of made-up pages, and of each node of these, is compared with a port
-of 13.3 over the model, or with Chromium. With --select where `crates/tl_tree_select` finds made-up selectors in made-up pages is compared with
+of 13.3 over the model, or with Chromium. With --pretty what `crates/tl_tree`, or Chromium, builds of pretty prints of files and of made-up pages is
+compared with what it builds of the pages, without texts of white space. With --select where `crates/tl_tree_select` finds made-up selectors in made-up pages is compared with
 Chromium, of so many pairs. With --text the readable text that `crates/tl_tree_extract` has of files is compared with Chromium's `innerText`, line by
 line. With --tables the slots of made-up tables in `crates/tl_tree_extract` are compared with a plain reader of the standard's
 steps, and with Chromium, as are the first tables of pages in folders; with --links the links of such pages. With --clauses the worked rows of that crate are
@@ -182,6 +184,7 @@ def main(parser, words):
     parser.add_argument("--code", action="store_true")
     parser.add_argument("--select", action="store_true")
     parser.add_argument("--prints", action="store_true")
+    parser.add_argument("--pretty", action="store_true")
     parser.add_argument("--text", action="store_true")
     parser.add_argument("--tables", action="store_true")
     parser.add_argument("--links", action="store_true")
@@ -211,7 +214,7 @@ def main(parser, words):
         from html5lib._tokenizer import HTMLTokenizer
         from html5lib.constants import tokenTypes
 
-        from . import tree_program, tree_selectors, tree_tables, tree_tests, tree_text
+        from . import tree_pretty, tree_program, tree_selectors, tree_tables, tree_tests, tree_text
     except ImportError:
         print("compare html: html5lib isn't installed", file=sys.stderr)
         return 3
@@ -224,6 +227,8 @@ def main(parser, words):
         return 1 if tree_tables.compared_tables(words) else 0
     if words.links:
         return 1 if tree_tables.compared_links(words) else 0
+    if words.pretty:
+        return 1 if tree_pretty.compared(words, PIECES) else 0
     if words.prints:
         return 1 if tree_program.compared_prints(words, PIECES) else 0
     if words.code:

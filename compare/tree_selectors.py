@@ -1,6 +1,7 @@
 """Where selectors hold in misnested pages: `crates/tl_tree_select`, by the program of tools/trees, beside Chromium.
 
-A document is searched, or below an element of it, or from one outwards. Chromium asks elements of svg and math for names and keys in any
+A document is searched, or below an element of it, or behind it, or from one outwards. Of those below and behind, some are asked for by
+relative selectors, and Chromium for the same with `:scope` before each combinator that stands first. Chromium asks elements of svg and math for names and keys in any
 case, so what has such elements is asked in exact case, and names are written in any case where there are none.
 
 Elements are told by their numbers among those of the document, without the contents of templates. Pages of which Chromium builds another
@@ -39,8 +40,8 @@ class Maker:
         self.names = NAMES if is_foreign else [it for it in NAMES if it not in FOREIGN]
 
     def search(self):
-        """How a selector is looked for: in the document, or below an element of it, or from one outwards."""
-        return [self.chance.choice(["document", "document", "below", "closest"]), self.chance.randrange(1000)]
+        """How a selector is looked for: in the document, or below an element of it, or behind it, or from one outwards."""
+        return [self.chance.choice(["document", "document", "below", "below", "behind", "closest"]), self.chance.randrange(1000)]
 
     def cased(self, text):
         return text if self.is_foreign or self.chance.random() < 0.7 else "".join(self.chance.choice([it, it.upper()]) for it in text)
@@ -107,14 +108,24 @@ class Maker:
             return self.selector()
         return self.chance.choice([":scope", "&"]) + self.chance.choice([" ", " > ", " + ", " ~ "]) + self.complex(0)
 
+    def asked(self, search):
+        """A selector as it is asked for here, as Chromium is asked for it, and whether it is relative."""
+        if search[0] not in ("below", "behind") or self.chance.random() < 0.3:
+            whole = self.whole()
+            return whole, whole, False
+        joints = [">", "+", "~"] if search[0] == "behind" else [">", ">", "+", ""]
+        parts = [(self.chance.choice(joints), self.chance.choice(["", " "]), self.complex(0)) for _ in range(self.chance.choice([1, 1, 2, 3]))]
+        own = ", ".join(joint + gap * bool(joint) + it for joint, gap, it in parts)
+        return own, ", ".join((f":scope {joint} " if joint else "") + it for joint, gap, it in parts), True
+
     def selector(self, depth=0):
         return ", ".join(self.complex(depth) for _ in range(self.chance.choice([1, 1, 1, 2])))
 
 
-def found(program, selector, search, pages):
+def found(program, selector, is_relative, search, pages):
     """The numbers of the elements that the program finds in each page, or nothing where it reads no selector."""
     kind, number = search
-    asked = run([program, "without-search", *([] if kind == "document" else [kind, str(number)]), "select", selector], given=SEPARATOR.join(pages).encode(), limit=600)
+    asked = run([program, "without-search", *([] if kind == "document" else [kind, str(number)]), *["relative"] * is_relative, "select", selector], given=SEPARATOR.join(pages).encode(), limit=600)
     if asked.status == 1:
         return None
     if asked.status:
@@ -132,10 +143,11 @@ def compared(words):
         lines = ["\n".join(it) for it in all_answers(browser, "documents.html", made, tree_tests.BATCH)]
         pages = [page for page, ours, theirs in zip(made, trees(program, made, "without-search"), lines) if ours == theirs]
         left_out += len(made) - len(pages)
-        selectors, searches = [maker.whole() for _ in range(SELECTORS)], [maker.search() for _ in range(SELECTORS)]
-        asked = [{"pages": pages, "selectors": selectors, "searches": searches}]
-        for selector, search, wanted in zip(selectors, searches, answers(browser, "tree_selectors.html", asked)):
-            ours = found(program, selector, search, pages)
+        searches = [maker.search() for _ in range(SELECTORS)]
+        selectors = [maker.asked(it) for it in searches]
+        asked = [{"pages": pages, "selectors": [theirs for _, theirs, _ in selectors], "searches": searches}]
+        for (selector, _, is_relative), search, wanted in zip(selectors, searches, answers(browser, "tree_selectors.html", asked)):
+            ours = found(program, selector, is_relative, search, pages)
             if ours is None or wanted is None:
                 continue
             pairs, hits = pairs + len(pages), hits + sum(map(bool, wanted))
