@@ -35,6 +35,7 @@ mod styles;
 mod tags;
 mod texts;
 mod tracking;
+mod tree_selectors;
 mod writes;
 
 use case::{Case, Point};
@@ -81,6 +82,7 @@ fn call(number: usize, case: &mut Case) -> Option<Named> {
         16 => questions::call(place, case),
         17 => policies::call(place, case),
         18 => asked::call(place, case),
+        19 => tree_selectors::call(place, case),
         _ => None,
     }
 }

@@ -8,7 +8,6 @@ use tl_css::Selector;
 use tl_css_select::document::{select, select_decoded};
 use tl_css_select::forest;
 use tl_css_select::known_forest::{Forest, FreshDocument, FreshGuard};
-use tl_tree::{Flags, Tree};
 
 // What is called.
 #[derive(Clone, Copy)]
@@ -24,19 +23,17 @@ enum StyleCall {
     SelectDecodedInForest,
     SelectDecodedBelow(u32),
     HoldsDecoded(u32),
-    SelectInTree,
-    FirstInTree,
-    MatchesInTree(u32),
 }
 
 // The name of a call, the call, the selector, and the numbers of the tags of the page where it
 // holds.
 type Row = (&'static str, StyleCall, &'static str, &'static [u32]);
 
-const PAGE: &str = "<ul id=i><li class=k>x</li><li>y<b></b></li></ul><p title=\"&amp;\">z</p>";
+/// A page with tags of three names, an id, a class, and a value with a reference.
+pub const PAGE: &str = "<ul id=i><li class=k>x</li><li>y<b></b></li></ul><p title=\"&amp;\">z</p>";
 
 #[rattlefmt::skip]
-static ROWS: [Row; 31] = [
+static ROWS: [Row; 24] = [
     ("parse of a selector of CSS, one part", StyleCall::Parse, "li", &[1, 3]),
     ("parse of a selector of CSS, two parts and a joint", StyleCall::Parse, "ul#i > li", &[1, 3]),
     ("parse of a selector of CSS, a list", StyleCall::Parse, "b, p, ul", &[0, 5, 6]),
@@ -61,14 +58,6 @@ static ROWS: [Row; 31] = [
     ("holds_decoded, a name", StyleCall::HoldsDecoded(1), "li", &[1]),
     ("holds_decoded, a value with a reference", StyleCall::HoldsDecoded(6), "[title='&']", &[6]),
     ("holds_decoded, a joint", StyleCall::HoldsDecoded(6), "ul + [title='&']", &[6]),
-    // (in a tree `html`, `head` and `body` stand before what the page has, and its ids and classes are in any case)
-    ("select of a tree, one part", StyleCall::SelectInTree, ".K", &[4]),
-    ("select of a tree, a joint", StyleCall::SelectInTree, "li > b, ul + [title='&']", &[8, 9]),
-    ("select of a tree, siblings of a name", StyleCall::SelectInTree, "li:nth-of-type(2)", &[6]),
-    ("first of a tree, one part", StyleCall::FirstInTree, "li", &[4]),
-    ("first of a tree, a joint", StyleCall::FirstInTree, "li + li", &[6]),
-    ("matches of a tree, one part", StyleCall::MatchesInTree(9), "[title='&' i]", &[9]),
-    ("matches of a tree, a joint", StyleCall::MatchesInTree(9), "ul ~ p", &[9]),
 ];
 
 /// A call with a selector of CSS, if there is one of this number.
@@ -79,9 +68,6 @@ pub fn call(number: usize, case: &mut Case) -> Option<Named> {
         StyleCall::Parse => parse_selector(row, case),
         StyleCall::Read => read(row, case),
         StyleCall::Keep => keep(row, case),
-        StyleCall::SelectInTree | StyleCall::FirstInTree | StyleCall::MatchesInTree(_) => {
-            call_on_tree(row, case)
-        }
         _ => call_on_page(row, case),
     };
     Some((name, answer))
@@ -198,57 +184,5 @@ fn ask_at(
     let (_, _, _, wanted) = *row;
     let forest = Forest::new(case.alloc(), document)?;
     let answer = measured!(case, forest.holds_decoded(case.alloc(), number, selector));
-    value(answer? && wanted == [number].as_slice())
-}
-
-fn call_on_tree(row: &Row, case: &mut Case) -> Result<(), Stop> {
-    let (_, call, text, wanted) = *row;
-    let selector = tl_css::parse(case.alloc(), text)?;
-    let flags = Flags {
-        is_scripting: false,
-        counts_search: true,
-    };
-    let tree = Tree::read(case.alloc(), PAGE.as_bytes(), flags)?;
-    match call {
-        StyleCall::FirstInTree => first_in_tree(&tree, &selector, wanted, case),
-        StyleCall::MatchesInTree(number) => match_in_tree(&tree, &selector, number, wanted, case),
-        _ => select_in_tree(&tree, &selector, wanted, case),
-    }
-}
-
-fn select_in_tree(
-    tree: &Tree<'_>,
-    selector: &Selector,
-    wanted: &[u32],
-    case: &mut Case,
-) -> Result<(), Stop> {
-    let answer = measured!(case, tl_tree_select::select(case.alloc(), tree, selector));
-    let numbers = answer?;
-    let mut both = numbers.iter().zip(wanted);
-    value(numbers.len() == wanted.len() && both.all(|(own, other)| *own == *other as usize))
-}
-
-fn first_in_tree(
-    tree: &Tree<'_>,
-    selector: &Selector,
-    wanted: &[u32],
-    case: &mut Case,
-) -> Result<(), Stop> {
-    let answer = measured!(case, tl_tree_select::first(case.alloc(), tree, selector));
-    let Some(number) = answer? else {
-        return value(false);
-    };
-    value(wanted == [number as u32].as_slice())
-}
-
-fn match_in_tree(
-    tree: &Tree<'_>,
-    selector: &Selector,
-    number: u32,
-    wanted: &[u32],
-    case: &mut Case,
-) -> Result<(), Stop> {
-    let at = number as usize;
-    let answer = measured!(case, tl_tree_select::matches(case.alloc(), tree, at, selector));
     value(answer? && wanted == [number].as_slice())
 }
