@@ -96,6 +96,18 @@ static CLOSEST: [(&[u8], &str, usize, Option<usize>); 7] = [
     (b"<div><template><p></template></div>", "div", 6, None),
 ];
 
+// A page, relative selectors, a number, and those of the elements below it and behind it where they
+// hold.
+#[rattlefmt::skip]
+static RELATIVE: [(&[u8], &str, usize, &[usize], &[usize]); 6] = [
+    (b"<div><p>a</div><p>b<i></i>", "> p", 3, &[4], &[]),
+    (b"<div><p>a</div><p>b<i></i>", "+ p", 3, &[], &[6]),
+    (b"<div><p>a</div><p>b<i></i>", "~ p > i", 3, &[], &[8]),
+    (b"<div><p>a</div><p>b<i></i>", "> p, + p", 3, &[4], &[6]),
+    (b"<div><p>a</div><p>b<i></i>", "p", 3, &[4], &[6]),
+    (b"<div><p>a</div><p>b<i></i>", "+ p", 99, &[], &[]),
+];
+
 fn are_found(alloc: Global, page: &[u8], selector: &Selector, numbers: &[usize]) -> bool {
     let Ok(tree) = Tree::read(alloc, page, STANDARD) else {
         return false;
@@ -198,5 +210,36 @@ fn selectors_hold_closest(rt: HostRuntime) {
     for (page, selector, number, closest) in &CLOSEST {
         let holds = is_closest(rt.alloc(), page, selector, *number, *closest);
         assert!(rt; holds);
+    }
+}
+
+fn are_related(
+    alloc: Global,
+    page: &[u8],
+    selector: &str,
+    number: usize,
+    below: &[usize],
+    behind: &[usize],
+) -> bool {
+    let (Ok(tree), Ok(selector)) = (
+        Tree::read(alloc, page, STANDARD),
+        tl_css::parse_relative(alloc, selector),
+    ) else {
+        return false;
+    };
+    let (Ok(inside), Ok(after)) = (
+        tl_tree_select::below(alloc, &tree, number, &selector),
+        tl_tree_select::behind(alloc, &tree, number, &selector),
+    ) else {
+        return false;
+    };
+    inside.as_slice() == below && after.as_slice() == behind
+}
+
+#[test]
+fn relative_selectors_hold(rt: HostRuntime) {
+    for (page, selector, number, below, behind) in &RELATIVE {
+        let hold = are_related(rt.alloc(), page, selector, *number, below, behind);
+        assert!(rt; hold);
     }
 }
