@@ -61,9 +61,8 @@ begun begin r at state built none first =
       sources = first;
     }
 
-pub first-place : (start end begin : ℕ) (xs ys : List Bounds) → ys ≡ xs ++ record { start = start; end = end } ∷ [] → xs ≡ [] → end ≡ begin → ys ≡ record { start = start; end = begin } ∷ []
-first-place start end begin xs ys e f g =
-    e ∙ (ap (λ (own : List Bounds). own ++ record { start = start; end = end } ∷ []) f ∙ ap (λ (n : ℕ). let own : Bounds = record { start = start; end = n } in own ∷ []) g)
+pub first-place : (end begin : ℕ) (ys : List Bounds) → ys ≡ record { start = 0; end = end } ∷ [] → end ≡ begin → ys ≡ record { start = 0; end = begin } ∷ []
+first-place end begin ys e same = e ∙ ap (λ (n : ℕ). let own : Bounds = record { start = 0; end = n } in own ∷ []) same
 
 -- Behind what stood in front
 

@@ -1,6 +1,6 @@
 //! Elements that the Noah's Ark clause takes for the same.
 ghost use Rattle.std.specs.List.{list_all, list_any};
-ghost use Rattle.std.specs.Prelude.{IsTrue, length, map, nat_eq, take, ◌&&◌, ◌≡◌, ◌≤◌};
+ghost use Rattle.std.specs.Prelude.{IsTrue, length, map, nat_eq, take, true, ◌&&◌, ◌≡◌, ◌≤◌};
 ghost use Rattle.std.specs.Str.{bytes_eq};
 ghost use Rattle.tl_dom_spec.specs.Formatting.{is_alike, is_same_attribute};
 ghost use Rattle.tl_dom_spec.specs.Tags as dom;
@@ -8,6 +8,11 @@ ghost use Rattle.tl_tree.specs.Inner.Store.{attribute_of, bytes_of, entries_of, 
 
 use crate::entries::{AttributeEntry, TagEntry};
 use crate::store::Store;
+use std::alloc::AllocError;
+use std::collections::BTreeMap;
+
+// So many attributes are looked for one by one.
+const FEW: usize = 16;
 
 /// The attributes of a tag.
 pub(crate) fn attributes<'s>(store: &'s Store<'_>, tag: TagEntry) -> &'s [AttributeEntry]
@@ -46,6 +51,88 @@ fn has_attribute(store: &Store<'_>, own: AttributeEntry, other: TagEntry) -> boo
     false
 }
 
+// A key has a place.
+fn put_place(
+    places: &mut BTreeMap<Vec<u8>, usize>,
+    store: &Store<'_>,
+    attribute: AttributeEntry,
+    place: usize,
+) -> Result<(), AllocError>
+    requires { IsTrue (is_attribute store.now attribute) }
+{
+    let key = store.bytes(attribute.key).to_vec(*store.tags.allocator())?;
+    places.insert(key, place)?;
+    Ok(())
+}
+
+// Where the attributes of a tag stand, by their keys.
+fn places_of(store: &Store<'_>, tag: TagEntry) -> Result<BTreeMap<Vec<u8>, usize>, AllocError>
+    requires { IsTrue (is_tag store.now tag) }
+{
+    let mut places = BTreeMap::new(*store.tags.allocator());
+    let attributes = attributes(store, tag);
+    for place in 0..attributes.len() {
+        put_place(&mut places, store, attributes[place], place)?;
+    }
+    Ok(places)
+}
+
+// The same, where so many are looked for that it is worth it. Without memory no key has a place,
+// which is no error.
+fn first_places(store: &Store<'_>, tag: TagEntry, sought: usize) -> BTreeMap<Vec<u8>, usize>
+    requires { IsTrue (is_tag store.now tag) }
+{
+    if sought > FEW {
+        if let Ok(places) = places_of(store, tag) {
+            return places;
+        }
+    }
+    BTreeMap::new(*store.tags.allocator())
+}
+
+// Whether a tag has an attribute like this one at the place of its key.
+fn has_attribute_there(
+    store: &Store<'_>,
+    own: AttributeEntry,
+    other: TagEntry,
+    places: &BTreeMap<Vec<u8>, usize>,
+) -> bool
+    requires own { IsTrue (is_attribute store.now own) }
+    requires other { IsTrue (is_tag store.now other) }
+    ensures { result ≡ true → list_any
+        (is_same_attribute (attribute_of store.now own))
+        (map (attribute_of store.now) (entries_of store.now other)) ≡ true }
+{
+    let Some(place) = places.get(store.bytes(own.key)).copied() else {
+        return false;
+    };
+    let attributes = attributes(store, other);
+    if place < attributes.len() {
+        return is_same_attribute(store, own, attributes[place]);
+    }
+    false
+}
+
+// Whether a tag has an attribute like this one. The first place to look is the one of its key.
+fn has_attribute_by(
+    store: &Store<'_>,
+    own: AttributeEntry,
+    other: TagEntry,
+    places: &BTreeMap<Vec<u8>, usize>,
+) -> bool
+    requires own { IsTrue (is_attribute store.now own) }
+    requires other { IsTrue (is_tag store.now other) }
+    ensures { result
+        ≡ list_any
+        (is_same_attribute (attribute_of store.now own))
+        (map (attribute_of store.now) (entries_of store.now other)) }
+{
+    if has_attribute_there(store, own, other, places) {
+        return true;
+    }
+    has_attribute(store, own, other)
+}
+
 // How many attributes of a tag are like those at their places in another one.
 fn same_front(store: &Store<'_>, own: TagEntry, other: TagEntry) -> usize
     requires own { IsTrue (is_tag store.now own) }
@@ -70,7 +157,8 @@ fn same_front(store: &Store<'_>, own: TagEntry, other: TagEntry) -> usize
 }
 
 // Whether a tag has attributes like those of another one. Those that come in the same order are
-// looked at once.
+// looked at once. Where one isn't where it is looked for first, all are looked at, which is the end
+// of it where keys differ.
 fn has_attributes(store: &Store<'_>, own: TagEntry, other: TagEntry) -> bool
     requires own { IsTrue (is_tag store.now own) }
     requires other { IsTrue (is_tag store.now other) }
@@ -83,8 +171,9 @@ fn has_attributes(store: &Store<'_>, own: TagEntry, other: TagEntry) -> bool
 {
     let attributes = attributes(store, own);
     let front = same_front(store, own, other);
+    let places = first_places(store, other, attributes.len() - front);
     for place in front..attributes.len() {
-        if !has_attribute(store, attributes[place], other) {
+        if !has_attribute_by(store, attributes[place], other, &places) {
             return false;
         }
     }

@@ -6,7 +6,7 @@ use crate::context::Context;
 use crate::entries::AttributeEntry;
 use crate::error::{GrowError, ReadError};
 use crate::places::Places;
-use crate::source::{keep_source, push_source};
+use crate::source::{begun, keep_source};
 use crate::token::Token;
 use std::alloc::{AllocError, Global};
 use tl_html_parts::{AttributePlace, TagFront, front_parts, next_tag, with_feeds};
@@ -148,10 +148,10 @@ impl<'p> Reader<'p> {
             (λ reader. is_little (builder_of reader.builder).excess ≡ true) }
         ensures page { IfOk result (λ reader. reader.page.now ≡ page.now) }
     {
-        let builder = Builder::new(alloc, page, flags)?;
         let at = mark_len(page);
-        let mut sources = Places::new(alloc, page.len() / 16)?;
-        push_source(&mut sources, 0, at)?;
+        // These first: what is owned at a `?` is dropped there, and the builder has far more.
+        let sources = begun(alloc, page.len() / 16, at)?;
+        let builder = Builder::new(alloc, page, flags)?;
         Ok(Reader {
             builder,
             page,
@@ -178,9 +178,8 @@ impl<'p> Reader<'p> {
             (λ reader. is_little (builder_of reader.builder).excess ≡ true) }
         ensures page { IfOk result (λ reader. reader.page.now ≡ text.now) }
     {
+        let sources = begun(alloc, 0, 0)?;
         let builder = Builder::for_fragment(alloc, text, context, flags)?;
-        let mut sources = Places::new(alloc, 0)?;
-        push_source(&mut sources, 0, 0)?;
         Ok(Reader {
             builder,
             page: text,

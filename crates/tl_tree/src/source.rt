@@ -1,5 +1,5 @@
 //! Where in the page what stands in a tree comes from.
-ghost use Rattle.std.specs.Prelude.{IsTrue, OnOk, [], suc, ◌++◌, ◌<◌, ◌^◌, ◌∷◌, ◌≡◌, ◌≤◌};
+ghost use Rattle.std.specs.Prelude.{IfOk, IsTrue, OnOk, [], suc, ◌++◌, ◌<◌, ◌^◌, ◌∷◌, ◌≡◌, ◌≤◌};
 ghost use Rattle.tl_tree.specs.Inner.Sourced.{with_source};
 ghost use Rattle.tl_tree.specs.Sources.{bounds_in};
 
@@ -7,6 +7,7 @@ use crate::error::GrowError;
 use crate::places::Places;
 use crate::row::Held;
 use crate::tree::Tree;
+use std::alloc::Global;
 use tl_html_tokens::{Front, TokenKind};
 
 /// The bytes of the page from `start` up to `end`.
@@ -39,19 +40,20 @@ pub(crate) fn keep_source(sources: &mut Places, start: usize, front: Front) -> R
     })
 }
 
-/// Keeps the begin and the end of a mark, or of what stands before all marks.
-pub(crate) fn push_source(sources: &mut Places, start: usize, end: usize) -> Result<(), GrowError>
-    requires { start ≤ end }
-    ensures { OnOk result (bounds_in sources.new
-        ≡ bounds_in sources.old ++ record { start = start; end = end } ∷ []) }
+/// Where a page begins, before any mark, with room for so many marks.
+pub(crate) fn begun(alloc: Global, room: usize, begin: usize) -> Result<Places, GrowError>
+    ensures { IfOk result
+        (λ sources. bounds_in sources ≡ record { start = 0; end = begin } ∷ []) }
 {
-    if start > u32::MAX as usize || end > u32::MAX as usize {
+    if begin > u32::MAX as usize {
         return Err(GrowError::TooLarge);
     }
+    let mut sources = Places::new(alloc, room)?;
     sources.push(Bounds {
-        start: start as u32,
-        end: end as u32,
-    })
+        start: 0,
+        end: begin as u32,
+    })?;
+    Ok(sources)
 }
 
 impl<'p> Tree<'p> {

@@ -92,15 +92,17 @@ impl<'a> Store<'a> {
         if page.len() > u32::MAX as usize {
             return Err(GrowError::TooLarge);
         }
+        let cells = Vec::with_capacity(alloc, page.len() / 16)?;
+        let tags = Vec::with_capacity(alloc, page.len() / 32)?;
         let attributes = AttributeLists::new(alloc, page.len() / 64)?;
         Ok(Store {
             page,
             side: Vec::new(alloc),
             attributes,
-            tags: Vec::with_capacity(alloc, page.len() / 32)?,
+            tags,
             names: MetNames::new(alloc),
             doctypes: Vec::new(alloc),
-            cells: Vec::with_capacity(alloc, page.len() / 16)?,
+            cells,
         })
     }
 

@@ -9,20 +9,20 @@ use Rattle.tl_tree.proofs.Looped.{entry-within}
 use Rattle.tl_tree.specs.declared.entries.AttributeSpace.TheVariants.{Plain}
 use Rattle.tl_tree.proofs.alike.has_attributes.Goals as goal
 
-pub returns-then-not-has_attribute : goal.returns-then-not-has_attribute
-returns-then-not-has_attribute c =
+pub returns-then-not-has_attribute_by : goal.returns-then-not-has_attribute_by
+returns-then-not-has_attribute_by c =
     let s = c.args.store.now in
     let others = map (attribute_of s) (entries_of s c.args.other) in
     let test : dom.Attribute → Bool = λ x. list_any (is_same_attribute x) others in
     sym (ap (λ (xs : List AttributeEntry). list_all test (map (attribute_of s) xs)) (sym c.attributes-attributes.ensures)
-    ∙ all-missed test (attribute_of s) c.attributes-attributes.result.now c.loop-place.place _ c.loop-place-test.true (sym c.has_attribute.ensures ∙ c.if-not-has_attribute.true))
+    ∙ all-missed test (attribute_of s) c.attributes-attributes.result.now c.loop-place.place _ c.loop-place-test.true (sym c.has_attribute_by.ensures ∙ c.if-not-has_attribute_by.true))
 
-pub has_attribute-requires-clause-own : goal.has_attribute-requires-clause-own
-has_attribute-requires-clause-own c =
+pub has_attribute_by-requires-clause-own : goal.has_attribute_by-requires-clause-own
+has_attribute_by-requires-clause-own c =
     entry-within c.args.store.now c.args.own c.attributes-attributes.result.now c.loop-place.place _ c.attributes-attributes.ensures c.loop-place-test.true
 
-pub has_attribute-requires-clause-other : goal.has_attribute-requires-clause-other
-has_attribute-requires-clause-other c = c.requires.other
+pub has_attribute_by-requires-clause-other : goal.has_attribute_by-requires-clause-other
+has_attribute_by-requires-clause-other c = c.requires.other
 
 pub loop-place-preserved : goal.loop-place-preserved
 loop-place-preserved c =
@@ -33,4 +33,4 @@ loop-place-preserved c =
     let others = map (attribute_of s) (entries_of s c.args.other) in
     let test : dom.Attribute → Bool = λ x. list_any (is_same_attribute x) others in
     ap (λ (n : ℕ). list_all test (map (attribute_of s) (take n items))) (add-one i)
-    ∙ all-next test (attribute_of s) items i none c.loop-place-test.true c.loop-place.invariant (sym c.has_attribute.ensures ∙ c.if-not-has_attribute.false)
+    ∙ all-next test (attribute_of s) items i none c.loop-place-test.true c.loop-place.invariant (sym c.has_attribute_by.ensures ∙ c.if-not-has_attribute_by.false)

@@ -6,7 +6,7 @@ use Rattle.tl_tree.specs.Contexts.{context_of, tag_in}
 use Rattle.tl_tree.specs.Inner.Builders.{builder_of, flags_of, token_of}
 use Rattle.tl_tree.specs.Inner.Reading.{left_of}
 use Rattle.tl_tree.proofs.reader.Reader.for_fragment.Goals as goal
-use Rattle.tl_tree.proofs.Sourced.{begun, first-place}
+use Rattle.tl_tree.proofs.Sourced.{begun}
 use Rattle.tl_tree.specs.Sources.{fragment_begin}
 
 pub invariant_of-result : goal.invariant_of-result
@@ -22,7 +22,7 @@ returns c =
       left = begins (fragment_start flags (context_of c.args.context)) (builder_of c.in_ok-builder.builder) (context_state flags (tag_in c.args.context)) c.mode.result text text 0
           c.in_ok-builder.ensures.start c.mode.ensures refl;
       sources = begun (fragment_begin flags (context_of c.args.context)) _ refl c.mode.ensures c.in_ok-builder.ensures.start refl
-          (first-place 0 0 0 _ _ c.in_ok-push_source.ensures c.in_ok-sources.ensures refl);
+          c.in_ok-sources.ensures;
       little = ap (λ (b : Builder). is_little b.excess) c.in_ok-builder.ensures.start;
       page = refl;
     }

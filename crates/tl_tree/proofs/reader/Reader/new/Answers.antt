@@ -23,7 +23,7 @@ returns c =
       left = begins (page_start (flags_of c.args.flags)) (builder_of c.in_ok-builder.builder) data_state mode.Data (without_mark page) page c.mark_len-at.result
           c.in_ok-builder.ensures.start refl c.mark_len-at.ensures.rest;
       sources = begun (page_begin (flags_of c.args.flags) page) _ c.mark_len-at.ensures.bytes refl c.in_ok-builder.ensures.start refl
-          (first-place 0 c.mark_len-at.result (mark_len page) _ _ c.in_ok-push_source.ensures c.in_ok-sources.ensures c.mark_len-at.ensures.bytes);
+          (first-place c.mark_len-at.result (mark_len page) _ c.in_ok-sources.ensures c.mark_len-at.ensures.bytes);
       little = ap (λ (b : Builder). is_little b.excess) c.in_ok-builder.ensures.start;
       page = refl;
     }
