@@ -1,9 +1,11 @@
 -- What a test asks for is seen by its look.
-use Rattle.std.proofs.Common.{◌≡◌, ◌≤◌, ◌↔◌, ◌||◌, ℕ, zero, suc, List, Bool, Result, Ok, Err, true, false, Option, None, Some, IfSome, length, sym, arith, inl, inr, refl, subst, codes}
-use Rattle.std.specs.Option.{IsSomeAnd}
-use Rattle.std.specs.Prelude.{⊤, IfOk}
+use Rattle.std.proofs.Common.{◌≡◌, ◌∙◌, ◌≤◌, ◌↔◌, ◌||◌, ap, ℕ, zero, suc, List, Bool, Result, Ok, Err, true, false, Option, None, Some, IfSome, length, sym, arith, inl, inr, refl, subst, codes, bytes_eq}
+use Rattle.std.specs.Option.{IsSome, IsSomeAnd, option_and_then, option_map, option_map_or, unwrap_or}
+use Rattle.std.specs.Prelude.{⊤, IfOk, [], is_some, nat_eq}
 use Rattle.std.specs.Char.{to_ascii_lowercase}
-use Rattle.std.proofs.lemmas.Bool.{cases_lt}
+use Rattle.std.proofs.lemmas.Bool.{cases_Bool, cases_lt, eq-eqb, eqb-true, false≢true}
+use Rattle.std.proofs.lemmas.Slice.Eq.{bytes_eq-Decides}
+use Rattle.std.proofs.lemmas.Option.{none-some, same_Some}
 use Rattle.std.proofs.lemmas.List.{length-map}
 use Rattle.tl_css.specs.Selector as s
 use Rattle.tl_css.specs.Program.{selector_of}
@@ -12,12 +14,18 @@ use Rattle.tl_css.specs.declared.selector.Op.{Op}
 use Rattle.tl_css.specs.declared.selector.Op.TheVariants.{Equals, Word}
 use Rattle.tl_css.specs.declared.selector.Step.{Step}
 use Rattle.tl_css.specs.declared.selector.Test.{Test}
-use Rattle.tl_names.specs.ElementNames.{name_of as number_of}
+use Rattle.tl_names.proofs.ElementNames.{name_of_other, same_number}
+use Rattle.tl_names.specs.ElementNames.{element_names, name_of as number_of}
+use Rattle.tl_names.specs.Elements.{is_among}
 use Rattle.tl_names.specs.declared.element_name.ElementName.{ElementName}
-use Rattle.tl_tree.specs.Asked.{attributes_at, value_of}
+use Rattle.tl_tree.specs.Asked.{attributes_at, attributes_of, name_of, node_at, value_of}
+use Rattle.tl_tree.specs.Rows.{Node, a_comment, a_doctype, a_text, an_element, contents}
 use Rattle.tl_tree_select.specs.Inner.Compound.{HoldBelow, HoldFrom, HoldsAt, IsCompound, first_test}
 use Rattle.tl_tree_select.specs.Inner.Links.{one_if}
-use Rattle.tl_tree_select.specs.Meaning.{HasValue, Holds, IsElement, IsNamed, Passes, PassesBy, folded, folds_at, is_html_at, spelled}
+use Rattle.tl_tree_select.specs.Inner.Looking.{HasNameNumber, IsSeen, is_of_elements}
+use Rattle.tl_tree_select.specs.declared.look.Look.{Look}
+use Rattle.tl_tree_select.specs.declared.look.Look.TheVariants as l
+use Rattle.tl_tree_select.specs.Meaning.{HasValue, Holds, IsElement, Passes, PassesBy, folded, folds_at, is_element, is_html_at, spelled}
 use Rattle.tl_tree_select.specs.Page.{Page}
 use Rattle.tl_tree_select.proofs.Compounds.{all_hold}
 use Rattle.tl_tree_select.proofs.Values.{none_longer}
@@ -40,10 +48,92 @@ weaker : (P Q : List ℕ → Type 0) (o : Option (List ℕ)) → ((own : List �
 weaker P Q None more h = h
 weaker P Q (Some own) more h = more own h
 
+-- Names by their numbers
+
+pub number_at : (o : Option (List ℕ)) (own known : ElementName) (b : Bool) → Some own ≡ option_map number_of o → b ≡ nat_eq own.number known.number
+    → (b ≡ true) ↔ (option_map (λ name. (number_of name).number) o ≡ Some known.number)
+number_at None own known b got is = absurd (none-some own (sym got))
+number_at (Some name) own known b got is =
+    let same : own.number ≡ (number_of name).number = ap (λ (e : ElementName). e.number) (same_Some own (number_of name) got) in (
+      λ t. ap (λ (k : ℕ). Some k) (sym same ∙ eqb-true own.number known.number (sym is ∙ t)),
+      λ e. is ∙ eq-eqb own.number known.number (same ∙ same_Some (number_of name).number known.number e),
+    )
+
+-- a name that has a number of its own is told by it
+number_tells : (o : Option (List ℕ)) (known : ElementName) (lower : List ℕ) → known ≡ number_of lower → (known.number ≡ 159 → ⊥)
+    → option_map (λ name. (number_of name).number) o ≡ Some known.number → o ≡ Some lower
+number_tells None known lower is own e = absurd (none-some known.number e)
+number_tells (Some name) known lower is own e =
+    let among : is_among element_names lower ≡ true = elim (cases_Bool (is_among element_names lower)) as (λ _. is_among element_names lower ≡ true) [
+      | inl listed ↦ listed
+      | inr other ↦ absurd (own (ap (λ (e : ElementName). e.number) (is ∙ sym (name_of_other lower other))))
+    ] in
+    let same : (number_of name).number ≡ (number_of lower).number =
+    same_Some (number_of name).number known.number e ∙ ap (λ (e : ElementName). e.number) is in
+    let alike : bytes_eq lower name ≡ true = sym (same_number lower name among) ∙ eq-eqb (number_of name).number (number_of lower).number same in
+    ap (λ (own : List ℕ). Some own) (sym ((bytes_eq-Decides lower name).0 alike))
+
+spelled_lower : (is_html : Bool) (name : s.Ident) → name.lower ≡ name.written → spelled is_html name ≡ name.lower
+spelled_lower true name same = refl
+spelled_lower false name same = sym same
+
+element_named : (o : Option Node) (name : List ℕ) → option_and_then name_of o ≡ Some name → IsSomeAnd o (λ node. IsSome (name_of node))
+element_named None name e = absurd (none-some name e)
+element_named (Some node) name e = ap (λ (o : Option (List ℕ)). is_some o) e
+
+some_numbered : (o : Option (List ℕ)) (k : ℕ) → option_map (λ name. (number_of name).number) o ≡ Some k → is_some o ≡ true
+some_numbered None k e = absurd (none-some k e)
+some_numbered (Some name) k e = refl
+
+element_numbered : (o : Option Node) (k : ℕ) → option_map (λ name. (number_of name).number) (option_and_then name_of o) ≡ Some k → IsSomeAnd o (λ node. IsSome (name_of node))
+element_numbered None k e = absurd (none-some k e)
+element_numbered (Some node) k e = some_numbered (name_of node) k e
+
+pub known_is : (page : Page) (n : ℕ) (name : s.Ident) (known : ElementName) → known ≡ number_of name.lower → (known.number ≡ 159 → ⊥) → name.lower ≡ name.written
+    → Holds page (s.Is (s.Name name)) n ↔ HasNameNumber page known n
+known_is page n name known is own same =
+    let o = option_and_then name_of (node_at page.rows n) in
+    let lower : spelled (is_html_at page n) name ≡ name.lower = spelled_lower (is_html_at page n) name same in
+    let forward : o ≡ Some (spelled (is_html_at page n) name) → HasNameNumber page known n = λ named.
+    ap (λ (o : Option (List ℕ)). option_map (λ (own : List ℕ). (number_of own).number) o) (named ∙ ap (λ (own : List ℕ). Some own) lower)
+    ∙ ap (λ (e : ElementName). Some e.number) (sym is) in
+    let back : HasNameNumber page known n → o ≡ Some name.lower = λ h. number_tells o known name.lower is own h in (
+      λ h. forward h.1,
+      λ h. (element_named (node_at page.rows n) name.lower (back h), back h ∙ ap (λ (own : List ℕ). Some own) (sym lower)),
+    )
+
+pub name_seen : (page : Page) (n : ℕ) (name : s.Ident) (known : ElementName) → known ≡ number_of name.lower → Holds page (s.Is (s.Name name)) n
+    → IsSeen page (l.Name known) n
+name_seen page n name known is h = (name, is, h.1)
+
+-- What is seen of elements
+
+element_valued : (o : Option Node) (key : List ℕ) (P : List ℕ → Type 0) → IsSomeAnd (value_of key (unwrap_or (option_map attributes_of o) [])) P
+    → IsSomeAnd o (λ node. IsSome (name_of node))
+element_valued None key P h = absurd h
+element_valued (Some (an_element tag)) key P h = refl
+element_valued (Some contents) key P h = absurd h
+element_valued (Some (a_text bytes)) key P h = absurd h
+element_valued (Some (a_comment bytes)) key P h = absurd h
+element_valued (Some (a_doctype own)) key P h = absurd h
+
+pub seen_element : (page : Page) (look : Look) (n : ℕ) → is_of_elements look ≡ true → IsSeen page look n → IsElement page n
+seen_element page (l.Known known) n e h = element_numbered (node_at page.rows n) known.number h
+seen_element page (l.Name known) n e h = element_named (node_at page.rows n) (spelled (is_html_at page n) h.0) h.2
+seen_element page (l.Value key len) n e h = element_valued (node_at page.rows n) key.now (λ own. len ≤ length own) h
+seen_element page (l.Id id) n e h = h.0
+seen_element page (l.Class class) n e h = h.0
+seen_element page (l.Key key) n e h = h.0
+seen_element page l.Element n e h = h
+seen_element page (l.Mark marks) n e h = absurd (false≢true e)
+
+pub element_isnt_contents : (o : Option Node) → option_map_or is_element o false ≡ true → o ≡ Some contents → ⊥
+element_isnt_contents o is here = false≢true (sym (ap (λ (o : Option Node). option_map_or is_element o false) here) ∙ is)
+
 -- Holding there
 
 -- a test that is another one passes where that does
-as_test : (page : Page) (t u : s.Test) (n : ℕ) → t ≡ u → Holds page (s.Is t) n → Holds page (s.Is u) n
+pub as_test : (page : Page) (t u : s.Test) (n : ℕ) → t ≡ u → Holds page (s.Is t) n → Holds page (s.Is u) n
 as_test page t u n is h = subst (λ (u : s.Test). Holds page (s.Is u) n) is h
 
 by_case : (page : Page) (op : Op) (value key : List ℕ) (n : ℕ) (a b : Bool) → a ≡ b
@@ -51,10 +141,6 @@ by_case : (page : Page) (op : Op) (value key : List ℕ) (n : ℕ) (a b : Bool) 
 by_case page op value key n a b is h = subst (λ (folds : Bool). HasValue page (PassesBy folds op value) key n) is h
 
 module _ (page : Page) (t : s.Test) (n : ℕ) where
-  pub name_seen : (name : s.Ident) (known : ElementName) → t ≡ s.Name name → known ≡ number_of name.lower → Holds page (s.Is t) n
-      → (own : s.Ident) × (known ≡ number_of own.lower) × IsNamed page own n
-  name_seen name known is same h = (name, same, (as_test page t (s.Name name) n is h).1)
-
   pub id_long : (id : List ℕ) → t ≡ s.Id id → Holds page (s.Is t) n → HasValue page (λ own. length id ≤ length own) (codes "id") n
   id_long id is h =
       weaker (PassesBy page.is_quirks Equals id) (λ own. length id ≤ length own) (value_of (codes "id") (attributes_at page.rows n))

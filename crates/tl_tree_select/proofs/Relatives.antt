@@ -1,21 +1,51 @@
 -- Marks that links pass on, and counts along them, as the meaning has them.
-use Rattle.std.proofs.Common.{◌≡◌, ◌<◌, ◌⊎◌, ◌↔◌, ◌&&◌, ℕ, zero, suc, Bool, true, List, [], ◌∷◌, length, sym, ◌∙◌, arith, inl, inr, refl, subst}
+use Rattle.std.proofs.Common.{◌≡◌, ◌<◌, ◌⊎◌, ◌↔◌, ℕ, zero, suc, Bool, true, false, List, [], ◌∷◌, length, sym, ◌∙◌, arith, inl, inr, refl, subst}
 use Rattle.std.specs.List.{AllPairs, Contains}
-use Rattle.std.proofs.lemmas.Bool.{and_parts, and_from}
+use Rattle.std.proofs.lemmas.Bool.{false≢true}
 use Rattle.tl_tree_select.specs.Page.{Page}
 use Rattle.tl_css.specs.declared.selector.Link.{Link}
+use Rattle.tl_css.specs.declared.selector.Link.TheVariants.{Parent, Sibling, Twin}
 use Rattle.tl_css.specs.declared.selector.Reach.{Reach}
 use Rattle.tl_css.specs.declared.selector.Reach.TheVariants.{Once, Often}
 use Rattle.tl_css.specs.declared.selector.Way.{Way}
 use Rattle.tl_css.specs.declared.selector.Way.TheVariants.{From, To}
 use Rattle.tl_css.specs.declared.selector.Formula.{Formula}
 use Rattle.tl_css.specs.Selector.{Css, At, Nth}
-use Rattle.tl_tree_select.specs.Meaning.{AreLinks, Holds, IsCount, IsReached, IsTerm, IsUpTo, StandsThere}
+use Rattle.tl_tree_select.specs.Meaning.{AreLinks, Holds, IsBefore, IsCount, IsElement, IsReached, IsTerm, IsUpTo, StandsThere}
 use Rattle.tl_tree_select.specs.Inner.Columns.{AreMarks, IsCounted, IsPassed, is_often}
-use Rattle.tl_tree_select.specs.Inner.Kin.{AreLinksOf, is_element_at}
+use Rattle.tl_tree_select.specs.Inner.Kin.{AreLinksOf, is_read}
 use Rattle.tl_tree_select.specs.Inner.Links.{AreLinked, IsLinked, count_at, is_at}
-use Rattle.tl_tree_select.proofs.Siblings.{is_element_is}
 use Rattle.tl_tree_select.proofs.Marks.{marks_within}
+
+-- Links that are kept lead from elements to elements
+
+to_element : (page : Page) (link : Link) (m n : ℕ) → IsBefore page link m n → IsElement page m
+to_element page Parent m n h = h.0
+to_element page Sibling m n h = h.1.first
+to_element page Twin m n h = h.1.first
+
+from_element : (page : Page) (link : Link) (m n : ℕ) → is_read From link ≡ false → IsBefore page link m n → IsElement page n
+from_element page Parent m n kept h = absurd (false≢true (sym kept))
+from_element page Sibling m n kept h = h.1.second
+from_element page Twin m n kept h = h.1.second
+
+module _ (page : Page) (link : Link) (links : List ℕ) (are : AreLinksOf page link links) where
+  linked_from : (often : Bool) (m n : ℕ) → is_read From link ≡ false → IsLinked links often m n → IsElement page n
+  linked_from false m n kept e = from_element page link m n kept ((are.each m n).0 e).0
+  linked_from true m n kept (zero, a) = from_element page link m n kept ((are.each m n).0 a).0
+  linked_from true m n kept (suc k, a) = from_element page link a.0 n kept ((are.each a.0 n).0 a.1).0
+
+  chain_to : (k m n : ℕ) → AreLinked links k m n → IsElement page m
+  chain_to zero m n a = to_element page link m n ((are.each m n).0 a).0
+  chain_to (suc k) m n a = chain_to k m a.0 a.2
+
+  linked_to : (often : Bool) (m n : ℕ) → IsLinked links often m n → IsElement page m
+  linked_to false m n e = to_element page link m n ((are.each m n).0 e).0
+  linked_to true m n a = chain_to a.0 m n a.1
+
+  passed_element : (marks : List Bool) (way : Way) → is_read way link ≡ false → (often : Bool) (n : ℕ) → IsPassed links marks way often n → IsElement page n
+  passed_element marks From kept often n s = linked_from often s.0 n kept s.1
+  passed_element marks To kept often n s = linked_to often n s.0 s.1
 
 module _ (page : Page) (link : Link) (links : List ℕ) (are : AreLinksOf page link links) where
   links_are : (k m n : ℕ) → AreLinked links k m n → AreLinks page link k m n
@@ -41,19 +71,18 @@ module _ (page : Page) (link : Link) (links : List ℕ) (are : AreLinksOf page l
       λ s. (s.0, (reached reach n s.0).1 s.1, (p.each s.0).1 s.2),
     )
 
-    -- marks that are passed on, at tags
-    pub marks_related : (way : Way) (reach : Reach) (passed found : List Bool) → length passed ≡ length links → length found ≡ length passed
-        → ((n : ℕ) → (is_at passed n ≡ true) ↔ IsPassed links marks way (is_often reach) n)
-        → ((n : ℕ) → is_at found n ≡ (is_at passed n && is_element_at page n)) → AreMarks page (At way link reach e) found
-    marks_related way reach passed found len same each kept = record {
-      len = same ∙ len ∙ are.len;
+    -- marks that are passed on
+    pub marks_related : (way : Way) (reach : Reach) → is_read way link ≡ false → (found : List Bool) → length found ≡ length links
+        → ((n : ℕ) → (is_at found n ≡ true) ↔ IsPassed links marks way (is_often reach) n)
+        → AreMarks page (At way link reach e) found
+    marks_related way reach kept found len each = record {
+      len = len ∙ are.len;
       each = λ n. (
         λ mark.
-            let parts = and_parts (is_at passed n) (is_element_at page n) (sym (kept n) ∙ mark) in
-            let s = (passed_is way reach n).0 ((each n).0 parts.0) in
-            ((is_element_is page n).0 parts.1, s.0, s.1, s.2),
-        λ h. kept n ∙ and_from (is_at passed n) (is_element_at page n)
-            ((each n).1 ((passed_is way reach n).1 (h.1, h.2, h.3))) ((is_element_is page n).1 h.0),
+            let p = (each n).0 mark in
+            let s = (passed_is way reach n).0 p in
+            (passed_element page link links are marks way kept (is_often reach) n p, s.0, s.1, s.2),
+        λ h. (each n).1 ((passed_is way reach n).1 (h.1, h.2, h.3)),
       );
     }
 

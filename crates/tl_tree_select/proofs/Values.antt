@@ -1,5 +1,5 @@
 -- Tests of values.
-use Rattle.std.proofs.Common.{◌≡◌, ◌≢◌, ◌<◌, ◌≤◌, ◌+◌, ◌-◌, ◌↔◌, ◌⊎◌, ◌++◌, ◌∷◌, [], ℕ, suc, List, Bool, true, false, cond, IsTrue, length, take, drop, sym, ap, ◌∙◌, arith, inl, inr, subst, eqb, append_assoc, append-nil, length-append, take-append-drop}
+use Rattle.std.proofs.Common.{◌≡◌, ◌≢◌, ◌<◌, ◌≤◌, ◌+◌, ◌-◌, ◌↔◌, ◌⊎◌, ◌++◌, ◌∷◌, [], ℕ, suc, List, Bool, true, false, cond, IsTrue, length, take, drop, sym, ap, ◌∙◌, refl, arith, inl, inr, subst, eqb, append_assoc, append-nil, length-append, take-append-drop}
 use Rattle.std.specs.List.{AllByRecursion, Contains, list_any, slice_split, onto_first, starts_with, ends_with}
 use Rattle.std.specs.Str.{byte, bytes_eq}
 use Rattle.std.proofs.lemmas.Bool.{false≢true, or_cases}
@@ -105,6 +105,39 @@ word_short : (word own : List ℕ) → Contains (slice_split is_white own) word 
 word_short word own h =
     subst (λ (p : List ℕ). length p ≤ length own) h.2
     (All-from_recursion (λ p. length p ≤ length own) (slice_split is_white own) (short is_white own) h.0 word h.1)
+
+-- A word that is as long as the value is the value
+
+whole_none : (x : ℕ) (xs : List ℕ) (ps : List (List ℕ)) → AllByRecursion (λ p. length p ≤ length xs) ps → AllByRecursion (λ p. suc (length xs) ≤ length p → p ≡ x ∷ xs) ps
+whole_none x xs [] h = tt
+whole_none x xs (p ∷ ps) h = (λ le. absurd (let l = h.0 in omega (arith, l, le)), whole_none x xs ps h.1)
+
+only : (x : ℕ) (xs : List ℕ) → length xs ≤ 0 → x ∷ [] ≡ x ∷ xs
+only x [] le = refl
+only x (y ∷ ys) le = absurd (omega (arith, le))
+
+whole_onto : (x : ℕ) (xs : List ℕ) (ps : List (List ℕ)) → AllByRecursion (λ p. length p ≤ length xs) ps → AllByRecursion (λ p. length xs ≤ length p → p ≡ xs) ps
+    → AllByRecursion (λ p. suc (length xs) ≤ length p → p ≡ x ∷ xs) (onto_first x ps)
+whole_onto x xs [] h w = (λ le. only x xs (omega (arith, le)), tt)
+whole_onto x xs (p ∷ ps) h w = (λ le. ap (λ (p : List ℕ). x ∷ p) (w.0 (omega (arith, le))), whole_none x xs ps h.1)
+
+whole : (q : ℕ → Bool) (xs : List ℕ) → AllByRecursion (λ p. length xs ≤ length p → p ≡ xs) (slice_split q xs)
+whole q [] = (λ le. refl, tt)
+whole q (x ∷ xs) = elim (q x) as (λ b. AllByRecursion (λ p. suc (length xs) ≤ length p → p ≡ x ∷ xs) (cond b ([] ∷ slice_split q xs) (onto_first x (slice_split q xs)))) [
+  | true ↦ (λ le. absurd (omega (arith, le)), whole_none x xs (slice_split q xs) (short q xs))
+  | false ↦ whole_onto x xs (slice_split q xs) (short q xs) (whole q xs)
+]
+
+word_whole : (word own : List ℕ) → Contains (slice_split is_white own) word → length own ≤ length word → word ≡ own
+word_whole word own h le =
+    subst (λ (p : List ℕ). length own ≤ length p → p ≡ own) h.2
+    (All-from_recursion (λ p. length own ≤ length p → p ≡ own) (slice_split is_white own) (whole is_white own) h.0 word h.1) le
+
+pub other_word : (value own : List ℕ) → length own ≤ length value → (own ≡ value → ⊥) → (false ≡ true) ↔ Passes Word value own
+other_word value own le other = (
+  λ e. absurd (false≢true e),
+  λ h. absurd (other (sym (word_whole value own h.1 le))),
+)
 
 pub none_longer : (op : Op) (value own : List ℕ) → length own < length value → Passes op value own → ⊥
 none_longer Equals value own lt h = omega (arith, lt, ap length h)

@@ -1,5 +1,5 @@
 //! Marks of the rows where selectors hold.
-ghost use Rattle.std.specs.Prelude.{◌≡◌, ◌↔◌, ◌<◌, ◌^◌, ℕ, IfOk, true, length, ◌&&◌, ◌||◌};
+ghost use Rattle.std.specs.Prelude.{◌≡◌, ◌↔◌, ◌<◌, ◌^◌, ℕ, IfOk, false, true, length, ◌&&◌, ◌||◌};
 ghost use Rattle.tl_css.specs.Selector.{At, Both, Css, Is, Not, Nth};
 ghost use Rattle.tl_css.specs.View.{test as test_of};
 ghost use Rattle.tl_css.specs.declared.selector.Link.TheVariants.{Parent};
@@ -7,7 +7,7 @@ ghost use Rattle.tl_css.specs.declared.selector.Way.TheVariants.{From};
 ghost use Rattle.tl_tree_select.specs.Meaning.{Holds, IsCount, IsTerm};
 ghost use Rattle.tl_tree_select.specs.Inner.Columns.{AreMarks, IsCounted, IsPassed, is_inside, is_often};
 ghost use Rattle.tl_tree_select.specs.Inner.Looking.{IsEnough, IsSeen};
-ghost use Rattle.tl_tree_select.specs.Inner.Kin.{AreLinksOf, is_element_at};
+ghost use Rattle.tl_tree_select.specs.Inner.Kin.{AreLinksOf, is_element_at, is_read};
 ghost use Rattle.tl_tree_select.specs.Inner.Links.{AreLower, count_at, is_at};
 ghost use Rattle.tl_tree_select.specs.Page.{seen};
 
@@ -79,7 +79,8 @@ pub fn test_marks(
 {
     let (look, passes) = Look::of(page, test);
     match look {
-        Look::Name(known) => seen_marks(alloc, page, Look::Name(known), passes, test),
+        Look::Known(known) => seen_marks(alloc, page, Look::Known(known), passes, test),
+        Look::Element => seen_marks(alloc, page, Look::Element, passes, test),
         Look::Class(class) => seen_marks(alloc, page, Look::Class(class), passes, test),
         _ => seen_marks(alloc, page, look, passes, test),
     }
@@ -197,17 +198,6 @@ pub fn unite(marks: &mut Vec<bool>, others: &[bool])
     }
 }
 
-// Takes the mark from each row that is no element.
-fn keep_elements(marks: &mut Vec<bool>, page: &Searched<'_, '_>)
-    ensures len { length marks.new.items ≡ length marks.old.items }
-    ensures kept { (n : ℕ) → is_at marks.new.items n
-        ≡ (is_at marks.old.items n && is_element_at (seen page.now) n) }
-{
-    for (number, mark) in marks.iter_mut().enumerate() {
-        *mark = *mark && is_element_at(page, number);
-    }
-}
-
 // The marks that links pass on, in this way.
 fn pass_marks(
     alloc: Global,
@@ -233,7 +223,8 @@ fn is_often(reach: Reach) -> bool
     matches!(reach, Reach::Often)
 }
 
-/// The marks of the elements that are related to a marked one.
+/// The marks of the elements that are related to a marked one. Links that are kept lead from
+/// elements to elements, so no other row gets a mark.
 pub fn relatives(
     alloc: Global,
     page: &Searched<'_, '_>,
@@ -242,12 +233,12 @@ pub fn relatives(
     relation: (Way, Link, Reach),
 ) -> Result<Vec<bool>, AllocError>
     requires links { AreLinksOf (seen page.now) relation.1 links.now }
+    requires kept { is_read relation.0 relation.1 ≡ false }
     ensures { (e : Css) → AreMarks (seen page.now) e marks.now → IfOk result (λ found.
         AreMarks (seen page.now) (At relation.0 relation.1 relation.2 e) found.items) }
 {
     let (way, _, reach) = relation;
-    let mut found = pass_marks(alloc, links, marks, way, is_often(reach))?;
-    keep_elements(&mut found, page);
+    let found = pass_marks(alloc, links, marks, way, is_often(reach))?;
     Ok(found)
 }
 

@@ -4,6 +4,7 @@ ghost use Rattle.tl_css.specs.Selector.{Ident as Name, Key};
 ghost use Rattle.tl_css.specs.View.{ident};
 ghost use Rattle.tl_names.specs.ElementNames.{name_of};
 ghost use Rattle.tl_tree_select.specs.Inner.Kin.{is_element_at};
+ghost use Rattle.tl_tree_select.specs.Inner.Looking.{HasNameNumber};
 ghost use Rattle.tl_tree_select.specs.Meaning.{IsAnchor, IsMet, IsNamed, IsNothing, IsRoot, folds_at, is_html_at, spelled};
 ghost use Rattle.tl_tree_select.specs.Page.{seen};
 
@@ -78,6 +79,17 @@ pub fn may_be_named(page: &Searched<'_, '_>, number: usize, known: ElementName) 
         return true;
     }
     own.number() == known.number()
+}
+
+/// Whether there is an element whose name has this number.
+#[inline(always)]
+pub fn has_name_number(page: &Searched<'_, '_>, number: usize, known: ElementName) -> bool
+    ensures { (result ≡ true) ↔ HasNameNumber (seen page.now) known number }
+{
+    match page.tree.element_name(number) {
+        Some(own) => own == known,
+        None => false,
+    }
 }
 
 /// Whether there is an element of a key.

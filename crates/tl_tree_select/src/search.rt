@@ -115,6 +115,7 @@ fn found(
         → IfOk result (λ ns. AreBelow (IsFoundFrom (seen page.now) e start) end ns.items) }
 {
     match finder.look() {
+        Look::Known(known) => found_by(alloc, page, finder, Look::Known(known), start, end),
         Look::Name(known) => found_by(alloc, page, finder, Look::Name(known), start, end),
         Look::Value(key, len) => {
             found_by(alloc, page, finder, Look::Value(key, len), start, end)

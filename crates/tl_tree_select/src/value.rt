@@ -1,5 +1,5 @@
 //! Tests of values.
-ghost use Rattle.std.specs.Prelude.{◌≡◌, ◌↔◌, ◌⊎◌, ◌∷◌, [], ℕ, IfOk, List, true};
+ghost use Rattle.std.specs.Prelude.{◌≡◌, ◌≢◌, ◌≤◌, ◌↔◌, ◌⊎◌, ◌∷◌, [], ℕ, IfOk, List, length, true};
 ghost use Rattle.std.specs.List.{Contains, slice_split};
 ghost use Rattle.std.specs.Str.{byte, str_to_ascii_lowercase};
 ghost use Rattle.tl_css.specs.Bytes.{is_white};
@@ -62,10 +62,21 @@ fn is_inside(value: &[u8], own: &[u8]) -> bool
     !value.is_empty() && own.contains_str(value)
 }
 
+// Whether a value is no longer than a word, and another one: then it has that nowhere.
+fn is_another(word: &[u8], own: &[u8]) -> bool
+    ensures short { result ≡ true → length own.now ≤ length word.now }
+    ensures other { result ≡ true → own.now ≢ word.now }
+{
+    own.len() <= word.len() && own != word
+}
+
 /// Whether a value has this word, and that has a byte.
 pub fn is_word(value: &[u8], own: &[u8]) -> bool
     ensures { (result ≡ true) ↔ Passes Word value.now own.now }
 {
+    if is_another(value, own) {
+        return false;
+    }
     !value.is_empty() && has_word(value, own)
 }
 

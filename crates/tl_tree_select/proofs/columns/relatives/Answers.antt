@@ -16,8 +16,7 @@ returns c e are =
     let page = seen c.args.page.now in
     let links = c.args.links.now in
     let marks = c.args.marks.now in
-    let passed = c.in_ok-found.found.items in
-    marks_related page c.args.relation.1 links c.requires.links e marks are c.args.relation.0 c.args.relation.2 passed c.keep_elements.new.marks.items
-    c.in_ok-found.ensures.len c.keep_elements.ensures.len
-    (subst (λ (often : Bool). (n : ℕ) → (is_at passed n ≡ true) ↔ IsPassed links marks c.args.relation.0 often n) c.is_often.ensures c.in_ok-found.ensures.each)
-    c.keep_elements.ensures.kept
+    let found = c.in_ok-found.found.items in
+    marks_related page c.args.relation.1 links c.requires.links e marks are c.args.relation.0 c.args.relation.2 c.requires.kept found
+    c.in_ok-found.ensures.len
+    (subst (λ (often : Bool). (n : ℕ) → (is_at found n ≡ true) ↔ IsPassed links marks c.args.relation.0 often n) c.is_often.ensures c.in_ok-found.ensures.each)

@@ -13,7 +13,7 @@ pub relatives-requires : goal.relatives-requires
 relatives-requires c =
     let page = seen c.args.page.now in
     let kept : is_read c.args.relation.0 c.args.relation.1 ≡ false = search rules in
-    record { links = subst (λ (ls : List ℕ). AreLinksOf page c.args.relation.1 ls) (sym c.links.ensures) (c.requires.links kept) }
+    record { links = subst (λ (ls : List ℕ). AreLinksOf page c.args.relation.1 ls) (sym c.links.ensures) (c.requires.links kept); kept = kept }
 
 pub returns-then-is_read : goal.returns-then-is_read
 returns-then-is_read c e are =

@@ -2,7 +2,7 @@ use Rattle.std.proofs.Common.{◌≡◌, ◌∙◌, false, arith, inl, inr, rule
 use Rattle.std.proofs.lemmas.Bool.{cases_lt, false≢true}
 use Rattle.tl_tree_select.specs.Inner.Looking.{IsSeen}
 use Rattle.tl_tree_select.specs.Page.{seen}
-use Rattle.tl_tree_select.proofs.passing.pass.Goals as goal
+use Rattle.tl_tree_select.proofs.passing.pass_unmarked.Goals as goal
 
 pub rows-preserved : goal.rows-preserved
 rows-preserved c =

@@ -2,7 +2,7 @@ use Rattle.std.proofs.Common.{◌<◌, ◌≤◌, ◌-◌, ℕ}
 use Rattle.tl_tree_select.specs.Inner.Finding.{EndsContents, IsPlace}
 use Rattle.tl_tree_select.specs.Inner.Looking.{IsSeen}
 use Rattle.tl_tree_select.specs.Page.{seen}
-use Rattle.tl_tree_select.proofs.passing.pass.Given as goal
+use Rattle.tl_tree_select.proofs.passing.pass_unmarked.Given as goal
 
 abbrev pub invariant-rows : goal.invariant-rows
 invariant-rows l = record {
