@@ -8,3 +8,6 @@ pub mod Cells
 pub mod Escaped
 pub mod Lossy
 pub mod Chains
+pub mod Depths
+pub mod Slots
+pub mod Rising

@@ -3,6 +3,8 @@ pub mod Flowing
 pub mod Readable
 pub mod Runs
 pub mod Named
+pub mod NodeOutline
+pub mod Notation
 pub mod Numbers
 pub mod Spans
 pub mod Refresh
@@ -11,8 +13,10 @@ pub mod UrlKeys
 pub mod Links
 pub mod Json
 pub mod Outline
+pub mod Marks
 pub mod Fields
 pub mod Resolved
 pub mod Table
+pub mod Sheet
 pub mod Inner
 pub mod Examples

@@ -1,7 +1,7 @@
 //! Values in columns.
 ghost use Rattle.std.specs.List.{list_any};
 ghost use Rattle.std.specs.Prelude.{OnOk, [], flat_map, ◌++◌, ◌∷◌, ◌≡◌};
-ghost use Rattle.tl_tree_extract.specs.Fields.{comma_value, doubled, is_escaped, is_quoted, quoted, separator, tab_byte, value_written};
+ghost use Rattle.tl_tree_extract.specs.Fields.{comma_value, doubled, first_written, is_escaped, is_quoted, quoted, separator, tab_byte, value_written};
 
 use std::alloc::AllocError;
 
@@ -133,6 +133,22 @@ pub(crate) fn put_value(columns: Columns, value: &[u8], out: &mut Vec<u8>) -> Re
         Columns::Tabs => put_tab_value(value, out),
         Columns::Commas => put_comma_value(value, out),
     }
+}
+
+/// Writes the value of a first column, before so many others.
+pub(crate) fn put_first_value(
+    columns: Columns,
+    others: usize,
+    value: &[u8],
+    out: &mut Vec<u8>,
+) -> Result<(), AllocError>
+    ensures { OnOk result
+        (out.new.items ≡ out.old.items ++ first_written columns others value.now) }
+{
+    if columns == Columns::Commas && others == 0 && value.is_empty() {
+        return out.extend_from_slice(b"\"\"");
+    }
+    put_value(columns, value, out)
 }
 
 /// Writes what stands between two values.

@@ -20,11 +20,21 @@ pub enum Field<'f> {
     Name,
 }
 
-// Room for texts.
+/// Room for texts.
 #[derive(Drop)]
-struct Room {
-    text: Vec<u8>,
-    line: Vec<u8>,
+pub(crate) struct Room {
+    pub(crate) text: Vec<u8>,
+    pub(crate) line: Vec<u8>,
+}
+
+impl Room {
+    /// Takes no memory.
+    pub(crate) fn new(alloc: Global) -> Room {
+        Room {
+            text: Vec::new(alloc),
+            line: Vec::new(alloc),
+        }
+    }
 }
 
 // Writes the readable text of a node as a value.
@@ -135,10 +145,7 @@ pub fn write_fields(
     ensures { OnOk result (out.new.items ≡ out.old.items
         ++ records_written columns (rows_in tree.now) fields.now numbers.now) }
 {
-    let mut room = Room {
-        text: Vec::new(alloc),
-        line: Vec::new(alloc),
-    };
+    let mut room = Room::new(alloc);
     for number in numbers {
         put_record(tree, *number, fields, columns, &mut room, out)?;
     }

@@ -169,14 +169,14 @@ fn put_null(out: &mut Writer) -> Result<(), AllocError>
     out.null()
 }
 
-// Writes a namespace.
-fn put_space(name: &str, out: &mut Writer) -> Result<(), AllocError>
+/// Writes a member that is a text of UTF-8.
+pub(crate) fn put_str(name: &str, text: &str, out: &mut Writer) -> Result<(), AllocError>
     ensures tokens { OnOk result (out.new.tokens
-        ≡ out.old.tokens ++ key (codes "namespace") ∷ string name.now ∷ []) }
+        ≡ out.old.tokens ++ key name.now ∷ string text.now ∷ []) }
     ensures before { out.new.before ≡ out.old.before }
 {
-    out.key("namespace")?;
-    out.string(name)
+    out.key(name)?;
+    out.string(text)
 }
 
 /// Writes the namespace of an element that is not HTML's.
@@ -190,8 +190,8 @@ pub(crate) fn put_namespace(
     ensures before { out.new.before ≡ out.old.before }
 {
     match tree.namespace(node) {
-        Some(Namespace::Math) => put_space("math", out),
-        Some(Namespace::Svg) => put_space("svg", out),
+        Some(Namespace::Math) => put_str("namespace", "math", out),
+        Some(Namespace::Svg) => put_str("namespace", "svg", out),
         _ => Ok(()),
     }
 }

@@ -2,13 +2,13 @@
 ghost use Rattle.json.specs.Print.{print};
 ghost use Rattle.json.specs.Token.{begin_array, end_array, end_object, key};
 ghost use Rattle.std.specs.Option.{option_copied};
-ghost use Rattle.std.specs.Prelude.{IfOk, OnOk, [], flat_map, ◌+◌, ◌++◌, ◌-◌, ◌<◌, ◌^◌, ◌∷◌, ◌≡◌};
+ghost use Rattle.std.specs.Prelude.{IfOk, OnOk, [], codes, flat_map, ◌+◌, ◌++◌, ◌-◌, ◌<◌, ◌^◌, ◌∷◌, ◌≡◌};
 ghost use Rattle.tl_tree.specs.Asked.{ancestors_at, doctype_said};
 ghost use Rattle.tl_tree.specs.Sources.{source_at};
 ghost use Rattle.tl_tree.specs.TreeView.{rows_in};
-ghost use Rattle.tl_tree_extract.specs.Json.{any_member, closed_at, closed_outside, closing_at, doctype_members, document_tokens, head_at, node_tokens, nodes_tokens, opened_at, own_at, rows_tokens, source_members};
+ghost use Rattle.tl_tree_extract.specs.Json.{any_member, closed_at, closed_outside, closing_at, doctype_members, document_tokens, file_at, file_member, file_tokens, head_at, named_at, node_tokens, nodes_tokens, number_member, opened_at, own_at, rows_tokens, source_members};
 
-use crate::json_member::{put_attributes, put_name, put_namespace, put_number, put_text};
+use crate::json_member::{put_attributes, put_name, put_namespace, put_number, put_str, put_text};
 use crate::text::rows::ends_at;
 use json::Writer;
 use std::alloc::{AllocError, Global};
@@ -65,8 +65,8 @@ fn put_below(name: &str, out: &mut Writer) -> Result<(), AllocError>
     out.begin_array()
 }
 
-// Writes what a node says, or where what is in it begins.
-fn put_own(
+/// Writes what a node says, or where what is in it begins.
+pub(crate) fn put_own(
     alloc: Global,
     tree: &Tree<'_>,
     number: usize,
@@ -89,32 +89,75 @@ fn put_own(
     }
 }
 
-// Writes the object of a node up to its number.
-fn put_head(
+// Writes what an object says first.
+fn put_named(
     alloc: Global,
     tree: &Tree<'_>,
     number: usize,
     out: &mut Writer,
 ) -> Result<(), AllocError>
     ensures tokens { OnOk result
-        (out.new.tokens ≡ out.old.tokens ++ head_at (rows_in tree.now) number) }
+        (out.new.tokens ≡ out.old.tokens ++ named_at (rows_in tree.now) number) }
     ensures before { out.new.before ≡ out.old.before }
 {
-    out.begin_object()?;
     put_attributes(alloc, tree, number, out)?;
     put_name(alloc, tree, number, out)?;
     put_namespace(tree, number, out)
 }
 
-// Writes the object of a node up to what is in it.
-fn open(alloc: Global, tree: &Tree<'_>, number: usize, out: &mut Writer) -> Result<(), AllocError>
+// Writes the number of a node, and where it comes from.
+fn put_place(tree: &Tree<'_>, number: usize, out: &mut Writer) -> Result<(), AllocError>
     ensures tokens { OnOk result (out.new.tokens ≡ out.old.tokens
-        ++ opened_at (source_at tree.now number) (rows_in tree.now) number) }
+        ++ (number_member (codes "node") number ++ source_members (source_at tree.now number))) }
     ensures before { out.new.before ≡ out.old.before }
 {
-    put_head(alloc, tree, number, out)?;
     put_number("node", number, out)?;
-    put_source(tree, number, out)?;
+    put_source(tree, number, out)
+}
+
+// Writes the name of a file, if it is said.
+fn put_file(file: Option<&str>, out: &mut Writer) -> Result<(), AllocError>
+    ensures tokens { OnOk result
+        (out.new.tokens ≡ out.old.tokens ++ file_member (option_copied file.entry)) }
+    ensures before { out.new.before ≡ out.old.before }
+{
+    match file {
+        Some(name) => put_str("file", name, out),
+        None => Ok(()),
+    }
+}
+
+/// Writes the object of a node up to where it comes from.
+pub(crate) fn put_head(
+    alloc: Global,
+    tree: &Tree<'_>,
+    file: Option<&str>,
+    number: usize,
+    out: &mut Writer,
+) -> Result<(), AllocError>
+    ensures tokens { OnOk result (out.new.tokens ≡ out.old.tokens ++ head_at
+        (option_copied file.entry) (source_at tree.now number) (rows_in tree.now) number) }
+    ensures before { out.new.before ≡ out.old.before }
+{
+    out.begin_object()?;
+    put_file(file, out)?;
+    put_named(alloc, tree, number, out)?;
+    put_place(tree, number, out)
+}
+
+// Writes the object of a node up to what is in it.
+fn open(
+    alloc: Global,
+    tree: &Tree<'_>,
+    file: Option<&str>,
+    number: usize,
+    out: &mut Writer,
+) -> Result<(), AllocError>
+    ensures tokens { OnOk result (out.new.tokens ≡ out.old.tokens ++ opened_at
+        (option_copied file.entry) (source_at tree.now number) (rows_in tree.now) number) }
+    ensures before { out.new.before ≡ out.old.before }
+{
+    put_head(alloc, tree, file, number, out)?;
     put_own(alloc, tree, number, out)
 }
 
@@ -177,23 +220,50 @@ fn close(tree: &Tree<'_>, number: usize, first: usize, out: &mut Writer) -> Resu
     close_outside(tree, number, first, next, out)
 }
 
+// The file that a node says: the first of a range does.
+fn file_at<'f>(file: Option<&'f str>, count: usize) -> Option<&'f str>
+    ensures { option_copied result ≡ file_at (option_copied file.entry) count }
+{
+    if count == 0 { file } else { None }
+}
+
 // Writes the objects of a range of nodes.
 fn write_rows(
     alloc: Global,
     tree: &Tree<'_>,
+    file: Option<&str>,
     first: usize,
     last: usize,
     out: &mut Writer,
 ) -> Result<(), AllocError>
     ensures tokens { OnOk result (out.new.tokens ≡ out.old.tokens
-        ++ rows_tokens (source_at tree.now) (rows_in tree.now) first (last - first)) }
+        ++ rows_tokens (option_copied file.entry) (source_at tree.now) (rows_in tree.now)
+        first (last - first)) }
     ensures before { out.new.before ≡ out.old.before }
 {
     for count in 0..last.saturating_sub(first) {
-        open(alloc, tree, first + count, out)?;
+        open(alloc, tree, file_at(file, count), first + count, out)?;
         close(tree, first + count, first, out)?;
     }
     Ok(())
+}
+
+/// Writes a node, with what is below it, as an object of JSON that may say its file.
+pub(crate) fn write_json_in(
+    alloc: Global,
+    tree: &Tree<'_>,
+    file: Option<&str>,
+    number: usize,
+    out: &mut Writer,
+) -> Result<(), AllocError>
+    ensures tokens { OnOk result (out.new.tokens ≡ out.old.tokens ++ file_tokens
+        (option_copied file.entry) (source_at tree.now) (rows_in tree.now) number) }
+    ensures before { out.new.before ≡ out.old.before }
+{
+    match tree.end(number) {
+        Some(end) => write_rows(alloc, tree, file, number, end, out),
+        None => out.null(),
+    }
 }
 
 /// Writes a node, with what is below it, as an object of JSON: `null` where there is no such node.
@@ -207,10 +277,7 @@ pub fn write_json(
         ++ node_tokens (source_at tree.now) (rows_in tree.now) number) }
     ensures before { out.new.before ≡ out.old.before }
 {
-    match tree.end(number) {
-        Some(end) => write_rows(alloc, tree, number, end, out),
-        None => out.null(),
-    }
+    write_json_in(alloc, tree, None, number, out)
 }
 
 // Writes each node of these numbers.
@@ -257,7 +324,7 @@ pub fn write_json_document(
     ensures before { out.new.before ≡ out.old.before }
 {
     out.begin_array()?;
-    write_rows(alloc, tree, 0, tree.len(), out)?;
+    write_rows(alloc, tree, None, 0, tree.len(), out)?;
     out.end_array()
 }
 

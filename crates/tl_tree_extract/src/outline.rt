@@ -72,8 +72,8 @@ pub fn headings(alloc: Global, tree: &Tree<'_>) -> Result<Vec<Heading>, AllocErr
     Ok(headings)
 }
 
-// Writes two spaces for each of so many levels.
-fn put_indentation(levels: u8, out: &mut Vec<u8>) -> Result<(), AllocError>
+/// Writes two spaces for each of so many levels.
+pub(crate) fn put_indentation(levels: u8, out: &mut Vec<u8>) -> Result<(), AllocError>
     ensures { OnOk result (out.new.items ≡ out.old.items ++ indentation levels) }
 {
     for _ in 0..levels {

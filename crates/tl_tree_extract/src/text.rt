@@ -10,6 +10,7 @@ pub(crate) mod rows;
 
 pub use crate::text::display::{Display, box_of};
 use crate::text::flow::Flow;
+pub(crate) use crate::text::flow::line_len;
 use crate::text::rows::{is_kept, write_rows};
 use std::alloc::AllocError;
 use tl_tree::Tree;
@@ -46,6 +47,14 @@ pub fn write_readable_document(
     write_rows(tree, left_out, 0, tree.len(), 0, out)
 }
 
+/// Writes a text on one line: its words, with a space between two.
+pub(crate) fn write_words(text: &[u8], out: &mut Vec<u8>) -> Result<(), AllocError>
+    ensures { OnOk result (out.new.items ≡ out.old.items ++ one_line text.now) }
+{
+    Flow::new().put_text(false, text, out)?;
+    Ok(())
+}
+
 /// Writes the readable text of what is below a node on one line: its words, with a space between
 /// two. The vector is room.
 pub(crate) fn write_one_line(
@@ -59,6 +68,5 @@ pub(crate) fn write_one_line(
 {
     room.clear();
     write_readable_text(tree, number, &[], room)?;
-    Flow::new().put_text(false, room.as_slice(), out)?;
-    Ok(())
+    write_words(room.as_slice(), out)
 }

@@ -343,8 +343,8 @@ fn has_idle_space(text: &[u8]) -> bool
     found | (*last == b' ')
 }
 
-// How many bytes stand before the first line feed.
-fn line_len(text: &[u8]) -> usize
+/// How many bytes stand before the first line feed.
+pub(crate) fn line_len(text: &[u8]) -> usize
     ensures { result ≡ prefix_len (is_plain true) text.now }
 {
     memchr(b'\n', text).unwrap_or(text.len())

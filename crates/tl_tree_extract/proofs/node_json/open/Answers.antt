@@ -1,9 +1,9 @@
 use Rattle.std.proofs.lemmas.Result.{on_ok_weaker}
-use Rattle.tl_tree_extract.proofs.Chains.{four}
+use Rattle.tl_tree_extract.proofs.Chains.{two}
 use Rattle.tl_tree_extract.proofs.node_json.open.Goals as goal
 
 pub returns-clause-tokens : goal.returns-clause-tokens
 returns-clause-tokens c =
     on_ok_weaker c.put_own.result
-    (λ e. four _ _ _ _ _ _ _ _ _ c.in_ok-put_head.ensures.tokens c.in_ok-put_number.ensures.tokens c.in_ok-put_source.ensures.tokens e)
+    (λ e. two _ _ _ _ _ c.in_ok-put_head.ensures.tokens e)
     c.put_own.ensures.tokens

@@ -1,4 +1,4 @@
-use Rattle.std.proofs.Common.{[], ap, arith, length, ℕ, ◌++◌, ◌-◌, ◌∙◌, ◌∷◌, ◌≡◌}
+use Rattle.std.proofs.Common.{None, [], ap, arith, length, ℕ, ◌++◌, ◌-◌, ◌∙◌, ◌∷◌, ◌≡◌}
 use Rattle.std.proofs.lemmas.Result.{on_ok_weaker}
 use Rattle.json.specs.Token.{begin_array, end_array}
 use Rattle.tl_tree.specs.Sources.{source_at}
@@ -14,5 +14,5 @@ returns-clause-tokens c =
     on_ok_weaker c.end_array.result
     (λ e.
     three _ _ _ _ _ _ _ c.in_ok-begin_array.ensures.ok c.in_ok-write_rows.ensures.tokens e
-    ∙ ap (λ (n : ℕ). c.args.out.now.tokens ++ (begin_array ∷ (rows_tokens (source_at c.args.tree.now) rows 0 n ++ end_array ∷ []))) all)
+    ∙ ap (λ (n : ℕ). c.args.out.now.tokens ++ (begin_array ∷ (rows_tokens None (source_at c.args.tree.now) rows 0 n ++ end_array ∷ []))) all)
     c.end_array.ensures.ok

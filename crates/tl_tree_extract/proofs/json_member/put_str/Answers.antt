@@ -1,6 +1,6 @@
 use Rattle.std.proofs.lemmas.Result.{on_ok_weaker}
 use Rattle.tl_tree_extract.proofs.Chains.{two}
-use Rattle.tl_tree_extract.proofs.json_member.put_space.Goals as goal
+use Rattle.tl_tree_extract.proofs.json_member.put_str.Goals as goal
 
 pub returns-clause-tokens : goal.returns-clause-tokens
 returns-clause-tokens c =

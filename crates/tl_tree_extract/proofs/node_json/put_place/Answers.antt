@@ -1,0 +1,9 @@
+use Rattle.std.proofs.lemmas.Result.{on_ok_weaker}
+use Rattle.tl_tree_extract.proofs.Chains.{two}
+use Rattle.tl_tree_extract.proofs.node_json.put_place.Goals as goal
+
+pub returns-clause-tokens : goal.returns-clause-tokens
+returns-clause-tokens c =
+    on_ok_weaker c.put_source.result
+    (λ e. two _ _ _ _ _ c.in_ok-put_number.ensures.tokens e)
+    c.put_source.ensures.tokens
