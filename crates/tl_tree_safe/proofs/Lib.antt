@@ -11,3 +11,11 @@ pub mod KindFacts
 pub mod LevelFacts
 pub mod Whole
 pub mod WrittenAttributes
+pub mod WalkSteps
+pub mod Walks
+pub mod OpenElements
+pub mod WalkRows
+pub mod SaidTexts
+pub mod Commas
+pub mod Lawful
+pub mod InDiv

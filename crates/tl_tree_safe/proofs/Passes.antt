@@ -128,7 +128,7 @@ html_is html_space h = refl
 html_is _ h = absurd (true≢false (sym h))
 
 -- void elements are those of the print
-void_is : (names : Names) (tag : Tag) → is_html tag ≡ true → is_read names tag.name ≡ true → L.is_void tag ≡ is_void tag.name
+pub void_is : (names : Names) (tag : Tag) → is_html tag ≡ true → is_read names tag.name ≡ true → L.is_void tag ≡ is_void tag.name
 void_is names tag h r =
     ap (λ v. v && is_one_of L.void_names tag.name) h ∙ void_same names tag.name (and_parts (may_stand names tag.name) _ (and_parts (may_stand names tag.name && _) _ r).0).0
 

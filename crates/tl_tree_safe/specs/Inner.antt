@@ -3,3 +3,6 @@ pub mod Attributes
 pub mod Cleaning
 pub mod Pass
 pub mod Levels
+pub mod Walk
+pub mod Roles
+pub mod Bytes

@@ -3,9 +3,14 @@ pub mod Kept
 pub mod Fitted
 pub mod KeptFitted
 pub mod Policies
+pub mod OfPolicy
+pub mod Refusals
+pub mod OwnLists
+pub mod ListOptions
 pub mod Settled
 pub mod Joined
 pub mod Listed
 pub mod OwnKeys
 pub mod Examples
 pub mod Inner
+pub mod InDiv

@@ -1,5 +1,5 @@
 //! Attributes that stay.
-ghost use Rattle.std.specs.Prelude.{OnOk, flat_map, ◌++◌, ◌≡◌};
+ghost use Rattle.std.specs.Prelude.{IfOk, OnOk, flat_map, ◌++◌, ◌≡◌};
 ghost use Rattle.tl_dom_spec.specs.Tags.{plain_attribute};
 ghost use Rattle.tl_html_print.specs.Serialized.{serialized_attribute};
 ghost use Rattle.tl_tree.specs.Asked.{attribute_said, attributes_at};
@@ -54,8 +54,24 @@ fn write_listed(
     write_pair(attribute.key, value, out)
 }
 
-// Writes what stays of an attribute.
-fn write_attribute(
+/// Whether an attribute may stand with what stays of its value.
+pub(crate) fn is_kept(
+    alloc: Global,
+    lists: &Lists<'_>,
+    attribute: &Attribute<'_>,
+) -> Result<bool, AllocError>
+    ensures { IfOk result (λ kept. kept ≡ is_listed_attribute (listed_words lists.now)
+        (cleaned_attribute (attribute_said attribute.now))) }
+{
+    if is_clean(attribute.value) {
+        return Ok(is_listed(lists, attribute, attribute.value));
+    }
+    let value = clean(alloc, attribute.value)?;
+    Ok(is_listed(lists, attribute, &value))
+}
+
+/// Writes what stays of an attribute.
+pub(crate) fn write_attribute(
     alloc: Global,
     lists: &Lists<'_>,
     attribute: &Attribute<'_>,

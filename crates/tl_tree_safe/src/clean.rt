@@ -16,15 +16,15 @@ pub(crate) fn is_clean(bytes: &[u8]) -> bool
     memchr3(0, b'\r', 27, bytes).is_none()
 }
 
-// What a byte is written as, if it stays.
-fn said_byte(byte: u8) -> u8
+/// What a byte is written as, if it stays.
+pub(crate) fn said_byte(byte: u8) -> u8
     ensures { result ≡ said_byte byte }
 {
     if byte == b'\r' { b' ' } else { byte }
 }
 
-// Whether a byte stays.
-fn is_said(byte: u8) -> bool
+/// Whether a byte stays.
+pub(crate) fn is_said(byte: u8) -> bool
     ensures { result ≡ is_said byte }
 {
     byte != 0 && byte != 27

@@ -4,13 +4,33 @@
 
 mod attributes;
 mod clean;
+mod fate;
 mod fitted_rows;
+mod fragment;
 mod kept_rows;
 pub mod laws;
 mod links;
 mod lists;
+mod names;
+mod own_lists;
+mod policy;
+mod policy_rows;
+mod reasons;
+mod refusal;
+mod refused;
+mod sanitizer;
+mod start_tag;
+mod texts;
+mod walk;
+mod word_lists;
 mod words;
+mod writer;
 
 pub use attributes::write_attributes;
 pub use clean::write_cleaned;
+pub use fragment::sanitize_fragment;
 pub use lists::Lists;
+pub use policy::Policy;
+pub use refusal::{PolicyError, Reason};
+pub use sanitizer::sanitize;
+pub use word_lists::{ListTexts, WordLists, lines_of};

@@ -4,8 +4,8 @@ ghost use Rattle.std.specs.List.{list_all, list_any};
 ghost use Rattle.tl_safe_fit.specs.Words.{words_of};
 ghost use Rattle.tl_tree_safe.specs.Lists.{begins_link, has_no_scheme, is_link_byte, is_relative, is_unschemed, leads_out, leaves_site};
 
-// Whether a byte is printable ASCII but `"` and the space.
-fn is_link_byte(byte: u8) -> bool
+/// Whether a byte is printable ASCII but `"` and the space.
+pub(crate) fn is_link_byte(byte: u8) -> bool
     ensures { result ≡ is_link_byte byte }
 {
     byte > 32 && byte < 127 && byte != b'"'

@@ -8,7 +8,8 @@ ghost use Rattle.tl_tree_safe.specs.Policies.{listed_words};
 use crate::links::{begins_link, has_link_bytes, is_relative};
 use crate::words::is_among;
 
-/// What a policy lists.
+/// What a policy lists. Lists of your own begin best with others, as
+/// `Lists { tags: &["b", "p"], ..Lists::BLOG }`.
 #[derive(Clone, Copy, PartialEq, Eq, Debug)]
 pub struct Lists<'w> {
     /// The names of tags that may stand.

@@ -1,9 +1,9 @@
--- What is written of one attribute.
-use Rattle.std.specs.Prelude.{List, [], if◌then◌else◌, ℕ}
+-- What is written of attributes.
+use Rattle.std.specs.Prelude.{Bool, List, [], codes, if◌then◌else◌, ℕ, ◌&&◌}
 use Rattle.tl_dom_spec.specs.Tags.{Attribute}
 use Rattle.tl_html_print.specs.Serialized.{serialized_attribute}
-use Rattle.tl_tree_safe.specs.Kept.{is_listed_attribute}
-use Rattle.tl_tree_safe.specs.Lists.{ListedWords}
+use Rattle.tl_tree_safe.specs.Kept.{has_key, is_listed_attribute, is_marked_link, kept_attributes, marked_where}
+use Rattle.tl_tree_safe.specs.Lists.{ListedWords, rel_key}
 
 abbrev pub with_value : Attribute → List ℕ → Attribute
 with_value a value = record a { value = value }
@@ -11,3 +11,17 @@ with_value a value = record a { value = value }
 -- an attribute that is listed, and nothing of another one
 abbrev pub listed_written : ListedWords → Attribute → List ℕ
 listed_written p a = if is_listed_attribute p a then serialized_attribute a else []
+
+-- one that stands beside the mark of a link
+abbrev pub beside_written : ListedWords → Attribute → List ℕ
+beside_written p a = if has_key rel_key a then [] else listed_written p a
+
+-- the target of a link that stays
+abbrev pub is_kept_target : ListedWords → Attribute → Bool
+is_kept_target p a = has_key (codes "href") a && is_listed_attribute p a
+
+-- those that stay of an element of a name, with the mark of a link
+abbrev pub marked_attributes : ListedWords → List ℕ → List Attribute → List Attribute
+marked_attributes p name attributes =
+    let stay = kept_attributes p attributes in
+    marked_where (is_marked_link p name stay) stay

@@ -1,0 +1,4 @@
+use Rattle.tl_tree_safe.proofs.names.is_structural.Goals as goal
+
+pub returns : goal.returns
+returns c = c.is_among.ensures

@@ -1,0 +1,84 @@
+//! Texts made safe for a browser.
+ghost use Rattle.std.specs.Prelude.{Bool, IfOk, List, None, codes, false, true, ℕ, ◌++◌, ◌≡◌};
+ghost use Rattle.tl_dom_spec.specs.HtmlForest.{HtmlForest};
+ghost use Rattle.tl_dom_spec.specs.HtmlTree.{html_fragment};
+ghost use Rattle.tl_dom_spec.specs.Partial.{without_numbers};
+ghost use Rattle.tl_dom_spec.specs.Tags.{bare_tag};
+ghost use Rattle.tl_html_print.specs.Again.{built_in_div};
+ghost use Rattle.tl_html_print.specs.ReadAgain.{tokens_of_trees};
+ghost use Rattle.tl_html_print.specs.Serialized.{serialized};
+ghost use Rattle.tl_html_spec.specs.HtmlTokenizer.{data_state};
+ghost use Rattle.tl_html_spec.specs.Reader.{at, tokens_of};
+ghost use Rattle.tl_tree.specs.Rows.{rows_of};
+ghost use Rattle.tl_tree.specs.TreeView.{rows_in};
+ghost use Rattle.tl_tree_safe.specs.InDiv.{kept_in_div};
+ghost use Rattle.tl_tree_safe.specs.Joined.{texts_joined};
+ghost use Rattle.tl_tree_safe.specs.KeptFitted.{kept_fitted};
+ghost use Rattle.tl_tree_safe.specs.Listed.{are_listed};
+ghost use Rattle.tl_tree_safe.specs.OfPolicy.{lists_of};
+
+use crate::policy::Policy;
+use crate::sanitizer::sanitize;
+use std::alloc::{AllocError, Global};
+use tl_tree::{Context, Flags, Namespace, ReadError, Tree};
+
+// Reads a text as what a `div` holds.
+fn read_in_div(alloc: Global, text: &[u8]) -> Result<Tree<'_>, ReadError>
+    ensures { IfOk result (λ tree. rows_in tree
+        ≡ rows_of (html_fragment (bare_tag (codes "div")) text.now)) }
+{
+    let context = Context {
+        namespace: Namespace::Html,
+        name: b"div",
+        attributes: &[],
+        is_in_form: false,
+        is_quirks: false,
+    };
+    let flags = Flags {
+        is_scripting: false,
+        counts_search: true,
+    };
+    Tree::read_fragment(alloc, text, context, flags)
+}
+
+// Prints what a policy keeps of a tree.
+fn print_kept(alloc: Global, policy: &Policy<'_>, tree: &Tree<'_>) -> Result<Vec<u8>, AllocError>
+    ensures { (trees : HtmlForest) → rows_in tree.now ≡ rows_of trees →
+        IfOk result (λ page. page.items
+        ≡ serialized false None (kept_fitted (lists_of policy.now) trees)) }
+{
+    let mut page = Vec::new(alloc);
+    sanitize(alloc, policy, tree, &mut page)?;
+    Ok(page)
+}
+
+/// Reads a text as what a `div` holds, and prints what a policy keeps of it.
+///
+/// It is refused where memory runs out, and where `Tree::read_fragment` refuses the text.
+pub fn sanitize_fragment(
+    alloc: Global,
+    policy: &Policy<'_>,
+    text: &[u8],
+) -> Result<Vec<u8>, ReadError>
+    ensures print { IfOk result (λ page. page.items
+        ≡ serialized false None (kept_in_div (lists_of policy.now) text.now)) }
+
+    // Also where other markup follows, the standard's tokenizer reads its tags and texts alone.
+    ensures read { (rest : List ℕ) → IfOk result (λ page.
+        tokens_of (at data_state) (page.items ++ rest)
+        ≡ tokens_of_trees (kept_in_div (lists_of policy.now) text.now)
+        ++ tokens_of (at data_state) rest) }
+
+    // The standard's tree construction builds exactly its trees in a `div`.
+    ensures built { (counts_search : Bool) → IfOk result (λ page.
+        without_numbers (built_in_div counts_search page.items)
+        ≡ without_numbers (texts_joined (kept_in_div (lists_of policy.now) text.now))) }
+    ensures listed { IfOk result (λ page.
+        are_listed (lists_of policy.now) (tokens_of (at data_state) page.items) ≡ true) }
+{
+    let tree = read_in_div(alloc, text)?;
+    let Ok(page) = print_kept(alloc, policy, &tree) else {
+        return Err(ReadError::OutOfMemory);
+    };
+    Ok(page)
+}

@@ -1,0 +1,52 @@
+//! Worked rows: lists, and the first word for which they are no policy.
+
+ghost use Rattle.std.specs.Prelude.{None, Some, [], codes, true, ◌∷◌, ◌≡◌};
+ghost use Rattle.tl_tree_safe.specs.OwnLists.{blog_lists};
+ghost use Rattle.tl_tree_safe.specs.Refusals.{first_refusal};
+ghost use Rattle.tl_tree_safe.specs.declared.refusal.Reason.TheVariants.{ActiveScheme, LinkKey, MalformedTag, NoCell, NoRow, NoScheme, NoTable, NoTableBody, OpaqueTag, ScriptKey, StructuralTag, UnlistedMark};
+
+/// Names of tags.
+pub fn tags()
+    ensures none { first_refusal (record blog_lists { tags = [] }) ≡ None }
+    ensures upper_case { first_refusal (record blog_lists { tags = codes "P" ∷ [] })
+        ≡ Some (codes "P", MalformedTag) }
+    ensures template { first_refusal (record blog_lists { tags = codes "template" ∷ [] })
+        ≡ Some (codes "template", OpaqueTag) }
+    ensures the_first { first_refusal
+        (record blog_lists { tags = codes "p" ∷ codes "form" ∷ codes "svg" ∷ [] })
+        ≡ Some (codes "form", StructuralTag) }
+{}
+
+/// Keys, and what links begin with.
+pub fn attributes()
+    ensures script { first_refusal (record blog_lists { keys = codes "onclick" ∷ [] })
+        ≡ Some (codes "onclick", ScriptKey) }
+    ensures link { first_refusal (record blog_lists { keys = codes "action" ∷ [] })
+        ≡ Some (codes "action", LinkKey) }
+    ensures active { first_refusal (record blog_lists { link_prefixes = codes "data:image" ∷ [] })
+        ≡ Some (codes "data:image", ActiveScheme) }
+    ensures part_of_a_scheme { first_refusal
+        (record blog_lists { link_prefixes = codes "java" ∷ [] })
+        ≡ Some (codes "java", NoScheme) }
+    ensures mark { first_refusal (record blog_lists { nofollow_links = true })
+        ≡ Some (codes "rel", UnlistedMark) }
+{}
+
+/// Tables without their parts, and parts without a table.
+pub fn tables()
+    ensures no_body { first_refusal (record blog_lists { tags = codes "table" ∷ codes "tr" ∷ [] })
+        ≡ Some (codes "table", NoTableBody) }
+    ensures no_row { first_refusal
+        (record blog_lists { tags = codes "table" ∷ codes "tbody" ∷ codes "td" ∷ [] })
+        ≡ Some (codes "table", NoRow) }
+    ensures no_cell { first_refusal
+        (record blog_lists { tags = codes "table" ∷ codes "tbody" ∷ codes "tr" ∷ [] })
+        ≡ Some (codes "table", NoCell) }
+    ensures whole { first_refusal (record blog_lists {
+      tags =
+          codes "th" ∷ codes "tr" ∷ codes "tbody" ∷ codes "table" ∷ [];
+    }) ≡ None }
+    ensures no_table { first_refusal
+        (record blog_lists { tags = codes "p" ∷ codes "caption" ∷ codes "td" ∷ [] })
+        ≡ Some (codes "caption", NoTable) }
+{}
