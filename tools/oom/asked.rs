@@ -8,8 +8,9 @@ use std::alloc::Global;
 use tl_tree::{Flags, Tree};
 use tl_tree_extract::text::{write_readable_document, write_readable_text};
 use tl_tree_extract::{
-    Columns, Field, document_base, headings, json_of, links, resolved, table_of, table_rows,
-    write_fields, write_json_document, write_outline,
+    Columns, Field, JsonForm, Spans, comments, document_base, headings, json_of, links, marks_of,
+    resolved, table_of, table_rows, write_fields, write_json_document, write_json_flat,
+    write_json_lines, write_node_outline, write_outline, write_table,
 };
 use url::Url;
 
@@ -22,9 +23,15 @@ enum AskedCall {
     TableRows,
     Links,
     Headings,
+    Comments,
+    Marks,
     Outline,
+    NodeOutline,
+    Sheet,
     JsonDocument,
     JsonNodes(usize),
+    JsonFlat(usize),
+    JsonLines(usize),
     Fields(usize),
     Resolved,
     Base,
@@ -35,7 +42,7 @@ enum AskedCall {
 type Row = (&'static str, AskedCall, &'static [u8], &'static [u8]);
 
 #[rattlefmt::skip]
-static ROWS: [Row; 17] = [
+static ROWS: [Row; 23] = [
     ("write_readable_document", AskedCall::Document, b"<p>a<p>b", b"a\n\nb"),
     ("write_readable_document, no text", AskedCall::Document, b"<p>", b""),
     ("write_readable_text", AskedCall::Node(3), b"<p>a <b> b</b><p>c", b"a b"),
@@ -49,6 +56,12 @@ static ROWS: [Row; 17] = [
     ("write_json_document", AskedCall::JsonDocument, b"<!--a-->", b"[{\"attributes\":{},\"name\":null,\"node\":0,\"start\":0,\"end\":8,\"comment\":\"a\"},{\"attributes\":{},\"name\":\"html\",\"node\":1,\"children\":[{\"attributes\":{},\"name\":\"head\",\"node\":2,\"children\":[]},{\"attributes\":{},\"name\":\"body\",\"node\":3,\"children\":[]}]}]"),
     ("json_of", AskedCall::JsonNodes(3), b"<p id='a\"'>", b"[{\"attributes\":{\"id\":\"a\\\"\"},\"name\":\"p\",\"node\":3,\"start\":0,\"end\":11,\"children\":[]}]"),
     ("json_of, a prefix and no UTF-8", AskedCall::JsonNodes(3), b"<svg xlink:href='\xFF'>", b"[{\"attributes\":{\"xlink:href\":\"\xEF\xBF\xBD\"},\"name\":\"svg\",\"namespace\":\"svg\",\"node\":3,\"start\":0,\"end\":20,\"children\":[]}]"),
+    ("write_json_flat", AskedCall::JsonFlat(3), b"<p>a<b>b", b"[{\"attributes\":{},\"name\":\"p\",\"node\":3,\"start\":0,\"end\":3,\"text\":\"ab\"}]"),
+    ("write_json_lines", AskedCall::JsonLines(4), b"<p>a", b"{\"file\":\"f\",\"attributes\":{},\"name\":null,\"node\":4,\"start\":3,\"end\":4,\"text\":\"a\"}\n"),
+    ("write_node_outline", AskedCall::NodeOutline, b"<!--a--><p id=b class='c d'>e\nf", b"<!-- a -->\nhtml\n  head\n  body\n    p#b.c.d\n      \"e\"\n"),
+    ("write_table", AskedCall::Sheet, b"<table><tr><td colspan=2>a<td>b,<tr><td>c", b"a,a,\"b,\"\nc,,\n"),
+    ("comments", AskedCall::Comments, b"<!--a--><!--b-->", b"2"),
+    ("marks_of", AskedCall::Marks, b"<p>", b"4"),
     ("write_fields", AskedCall::Fields(3), b"<p class='a\"'>b  c", b"p,\"a\"\"\",b c\n"),
     ("resolved", AskedCall::Resolved, b"c?d", b"http://a/c?d"),
     ("resolved, no URL", AskedCall::Resolved, b"http://[", b""),
@@ -71,7 +84,9 @@ pub fn call(number: usize, case: &mut Case) -> Option<Named> {
         AskedCall::Table
         | AskedCall::TableRows
         | AskedCall::Links
-        | AskedCall::Headings => ask_count(row, case),
+        | AskedCall::Headings
+        | AskedCall::Comments
+        | AskedCall::Marks => ask_count(row, case),
         _ => ask(row, case),
     };
     Some((name, answer))
@@ -96,6 +111,18 @@ fn written(alloc: Global, tree: &Tree<'_>, call: AskedCall) -> Result<Vec<u8>, S
             return Ok(writer.into_inner());
         }
         AskedCall::JsonNodes(number) => return Ok(json_of(alloc, tree, &[number])?),
+        AskedCall::JsonFlat(number) => {
+            let mut writer = Writer::new(out);
+            write_json_flat(alloc, tree, &[number], &mut writer)?;
+            return Ok(writer.into_inner());
+        }
+        AskedCall::JsonLines(number) => {
+            write_json_lines(alloc, tree, &[number], JsonForm::Flat, Some("f"), &mut out)?;
+        }
+        AskedCall::NodeOutline => write_node_outline(alloc, tree, false, &mut out)?,
+        AskedCall::Sheet => {
+            write_table(alloc, tree, 3, Columns::Commas, Spans::Filled, &mut out)?;
+        }
         AskedCall::Fields(number) => {
             write_fields(alloc, tree, &[number], &FIELDS, Columns::Commas, &mut out)?;
         }
@@ -117,6 +144,8 @@ fn count(alloc: Global, tree: &Tree<'_>, call: AskedCall) -> Result<usize, Stop>
         AskedCall::TableRows => Ok(table_rows(alloc, tree, 3)?.len()),
         AskedCall::Links => Ok(links(alloc, tree)?.len()),
         AskedCall::Headings => Ok(headings(alloc, tree)?.len()),
+        AskedCall::Comments => Ok(comments(alloc, tree)?.len()),
+        AskedCall::Marks => Ok(marks_of(alloc, tree, &[1])?.len()),
         _ => Err(Stop::WrongValue),
     }
 }

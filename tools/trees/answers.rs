@@ -5,15 +5,24 @@ use json::Writer;
 use std::alloc::Global;
 use tl_css::Selector;
 use tl_tree::Tree;
-use tl_tree_extract::{Columns, Field, json_of, write_fields, write_json_document, write_outline};
+use tl_tree_extract::{
+    Columns, Field, JsonForm, Spans, json_of, write_fields, write_json_document, write_json_lines,
+    write_node_outline, write_outline, write_table,
+};
 
 /// What is asked of a page.
 #[derive(Clone, Copy, PartialEq, Eq)]
 pub enum Answer {
     Json,
+    Flat,
+    Nested,
     Outline,
+    Nodes,
+    Numbered,
     Tabs,
     Commas,
+    Filled,
+    Once,
 }
 
 /// Writes an answer: as JSON what a selector found, or else the document; in columns the name, the
@@ -27,9 +36,15 @@ pub fn put_answer(
 ) -> Result<(), NoRoom> {
     match answer {
         Answer::Json => put_json(alloc, out, tree, selector),
+        Answer::Flat => put_lines(alloc, out, tree, JsonForm::Flat, selector),
+        Answer::Nested => put_lines(alloc, out, tree, JsonForm::Nested, selector),
         Answer::Outline => Ok(write_outline(alloc, tree, out)?),
+        Answer::Nodes => Ok(write_node_outline(alloc, tree, false, out)?),
+        Answer::Numbered => Ok(write_node_outline(alloc, tree, true, out)?),
         Answer::Tabs => put_fields(alloc, out, tree, Columns::Tabs, selector),
         Answer::Commas => put_fields(alloc, out, tree, Columns::Commas, selector),
+        Answer::Filled => put_tables(alloc, out, tree, Spans::Filled, selector),
+        Answer::Once => put_tables(alloc, out, tree, Spans::Once, selector),
     }
 }
 
@@ -62,6 +77,18 @@ fn put_json(
     Ok(())
 }
 
+fn put_lines(
+    alloc: Global,
+    out: &mut Vec<u8>,
+    tree: &Tree<'_>,
+    form: JsonForm,
+    selector: Option<&Selector>,
+) -> Result<(), NoRoom> {
+    let numbers = found(alloc, tree, selector)?;
+    write_json_lines(alloc, tree, numbers.as_slice(), form, Some("a.html"), out)?;
+    Ok(())
+}
+
 fn put_fields(
     alloc: Global,
     out: &mut Vec<u8>,
@@ -73,5 +100,19 @@ fn put_fields(
     let fields =
         [Field::Name, Field::Attribute(b"id"), Field::Attribute(b"class"), Field::Text];
     write_fields(alloc, tree, numbers.as_slice(), &fields, columns, out)?;
+    Ok(())
+}
+
+fn put_tables(
+    alloc: Global,
+    out: &mut Vec<u8>,
+    tree: &Tree<'_>,
+    spans: Spans,
+    selector: Option<&Selector>,
+) -> Result<(), NoRoom> {
+    let numbers = found(alloc, tree, selector)?;
+    for number in &numbers {
+        write_table(alloc, tree, *number, Columns::Commas, spans, out)?;
+    }
     Ok(())
 }

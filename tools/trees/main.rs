@@ -14,11 +14,15 @@
 //! | `table NUMBER` | that the table of this number among those of the document is asked for, from 1 (`parts`) |
 //! | `links` | that the links are asked for (`parts`) |
 //! | `json` | that the nodes where the selector holds are written as JSON, or else the document (`answers`) |
+//! | `flat`, `nested` | that each of the nodes where the selector holds is written as JSON on a line, with the text below it or with what is below it |
+//! | `nodes`, `numbered` | that each node is written on a line as CSS would name it, with its number before it |
 //! | `outline` | that the headings are asked for |
 //! | `tabs`, `commas` | that fields of the nodes where the selector holds are asked for in columns (`answers`) |
+//! | `filled`, `once` | that the tables where the selector holds are written in columns, by commas: a cell in each of its slots, or where it begins |
 //! | `below NUMBER`, `behind NUMBER`, `closest NUMBER` | before `select`: that they are asked for below the element of this number or behind it, or that the innermost one from it outwards is |
 //! | `relative` | before `select`: that its selectors are relative |
 //! | `time` | that one page is on standard input, which is read alone: what is written is how many nodes it has, or `refused`, and how long the reading and the drop took, in microseconds; with `print`, `pretty`, `text`, `json` or another before it how many bytes that has of the document, and how long it took to write |
+//! | `again` | with `time`: that the page is read and dropped once before, so that the second reading can be counted alone |
 //!
 //! The status is 1 where a word or the selector is not understood, 3 where memory runs out, and 4 where reading or
 //! writing fails.
@@ -85,6 +89,7 @@ struct Asked {
     is_pretty: bool,
     is_text: bool,
     is_timed: bool,
+    is_read_twice: bool,
     /// The context element of fragments.
     context: Option<String>,
     /// Whose elements are asked for.
@@ -115,7 +120,7 @@ fn run(rt: &HostRuntime) -> Result<(), Failed> {
         return time_written(rt, pages.as_slice(), &asked);
     }
     if asked.is_timed {
-        return time(rt, pages.as_slice(), asked.flags);
+        return time(rt, pages.as_slice(), &asked);
     }
     let trees = trees_of(rt.alloc(), pages.as_slice(), &asked)?;
     let mut out = rt.stdout();
@@ -134,6 +139,7 @@ fn asked(rt: &HostRuntime) -> Result<Asked, Failed> {
         is_pretty: false,
         is_text: false,
         is_timed: false,
+        is_read_twice: false,
         context: None,
         selector: None,
         table: None,
@@ -152,14 +158,21 @@ fn asked(rt: &HostRuntime) -> Result<Asked, Failed> {
             "text" => asked.is_text = true,
             "links" => asked.are_links = true,
             "json" => asked.answer = Some(Answer::Json),
+            "flat" => asked.answer = Some(Answer::Flat),
+            "nested" => asked.answer = Some(Answer::Nested),
+            "nodes" => asked.answer = Some(Answer::Nodes),
+            "numbered" => asked.answer = Some(Answer::Numbered),
             "outline" => asked.answer = Some(Answer::Outline),
             "tabs" => asked.answer = Some(Answer::Tabs),
             "commas" => asked.answer = Some(Answer::Commas),
+            "filled" => asked.answer = Some(Answer::Filled),
+            "once" => asked.answer = Some(Answer::Once),
             "table" => match words.next() {
                 Some(number) => asked.table = number.as_str().parse::<usize>().ok(),
                 None => return Err(Failed::NotUnderstood),
             },
             "time" => asked.is_timed = true,
+            "again" => asked.is_read_twice = true,
             "fragment" => match words.next() {
                 Some(context) => asked.context = Some(context),
                 None => return Err(Failed::NotUnderstood),
@@ -193,9 +206,12 @@ fn number(word: Option<String>) -> Result<usize, Failed> {
 }
 
 // Reads a page, and says how long that took.
-fn time(rt: &HostRuntime, page: &[u8], flags: Flags) -> Result<(), Failed> {
+fn time(rt: &HostRuntime, page: &[u8], asked: &Asked) -> Result<(), Failed> {
+    if asked.is_read_twice {
+        mem::drop(Tree::read(rt.alloc(), page, asked.flags));
+    }
     let start = Instant::now(rt)?;
-    let read = Tree::read(rt.alloc(), page, flags);
+    let read = Tree::read(rt.alloc(), page, asked.flags);
     let count = match &read {
         Ok(tree) => Some(tree.len()),
         Err(_) => None,
