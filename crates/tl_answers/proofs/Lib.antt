@@ -1,0 +1,5 @@
+pub mod Roots
+pub mod Ends
+pub mod Joined
+pub mod Nth
+pub mod Answered

@@ -1,0 +1,19 @@
+//! What the program `tl` answers of the tree of a page.
+#![tactic(auto)]
+
+mod document;
+mod field;
+mod lines;
+mod objects;
+mod output;
+mod page;
+mod prints;
+mod question;
+mod selection;
+mod tables;
+
+pub use field::{Field, Key};
+pub use output::Output;
+pub use page::answer_of_page;
+pub use question::{Question, answer};
+pub use selection::{Listing, Query};

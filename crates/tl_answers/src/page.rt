@@ -1,0 +1,36 @@
+//! What is answered of a page.
+ghost use Rattle.std.specs.Prelude.{IfErr, IfOk, List, ℕ};
+ghost use Rattle.tl_answers.specs.Answers.{AreSelected};
+ghost use Rattle.tl_answers.specs.Findings.{finding_of};
+ghost use Rattle.tl_answers.specs.Pages.{IsAnswered, IsUnread, searched};
+
+use crate::output::Output;
+use crate::question::{Question, answer};
+use std::alloc::{AllocError, Global};
+use tl_tree::{Flags, ReadError, Tree};
+
+// Pages are read by the standard, without scripts.
+const FLAGS: Flags = Flags {
+    is_scripting: false,
+    counts_search: true,
+};
+
+/// What is answered of the bytes of a page, which is read once, where what is listed ends with
+/// `end`.
+pub fn answer_of_page(
+    alloc: Global,
+    question: &Question<'_>,
+    end: &str,
+    page: &[u8],
+) -> Result<Output, ReadError>
+    // By the numbers of the nodes where its selector holds, if it has one: these are one list.
+    ensures made { (ns : List ℕ) → AreSelected question.now (searched page.now) ns → IfOk result
+        (λ output. IsAnswered question.now ns end.now page.now (finding_of output)) }
+    ensures told { IfErr result (IsUnread page.now) }
+{
+    let tree = Tree::read(alloc, page, FLAGS)?;
+    match answer(alloc, question, end, &tree) {
+        Ok(output) => Ok(output),
+        Err(AllocError) => Err(ReadError::OutOfMemory),
+    }
+}

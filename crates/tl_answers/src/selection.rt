@@ -1,0 +1,92 @@
+//! What is written of the nodes where a selector holds.
+ghost use Rattle.std.specs.Prelude.{IfOk, List, ℕ, ◌≡◌};
+ghost use Rattle.tl_answers.specs.Answers.{front, listing_of};
+ghost use Rattle.tl_answers.specs.Findings.{finding_of};
+ghost use Rattle.tl_dom_spec.specs.HtmlForest.{HtmlForest};
+ghost use Rattle.tl_tree.specs.Rows.{rows_of};
+ghost use Rattle.tl_tree.specs.Sources.{source_at};
+ghost use Rattle.tl_tree.specs.TreeView.{rows_in};
+ghost use Rattle.tl_tree_select.specs.Meaning.{AreFound};
+ghost use Rattle.tl_tree_select.specs.Page.{page_of};
+
+use crate::field::Field;
+use crate::lines::{count_line, field_lines, readable_lines};
+use crate::objects::{object_array, object_lines};
+use crate::output::Output;
+use std::alloc::{AllocError, Global};
+use tl_css::Selector;
+use tl_tree::Tree;
+use tl_tree_extract::JsonForm;
+use tl_tree_select::select;
+
+/// What is written of the nodes where a selector holds.
+#[derive(Clone, Copy)]
+pub enum Listing<'w> {
+    /// A field of each.
+    Fields(Field<'w>),
+    /// The readable text inside each, which may be empty.
+    Readable,
+    /// How many there are.
+    Count,
+    /// An array of JSON, with an object for each.
+    Objects(JsonForm),
+    /// An object of JSON for each on a line of its own, which says its file.
+    Lines(JsonForm, &'w str),
+}
+
+/// Which nodes are looked for, and what is written of them.
+#[derive(Clone, Copy)]
+pub struct Query<'w> {
+    pub selector: &'w Selector,
+    /// How many nodes at most are meant, the first; all where it isn't said.
+    pub most: Option<u32>,
+    pub listing: Listing<'w>,
+}
+
+// The first of these numbers, at most so many.
+#[tactic(auto, using(std::proofs::lemmas::List::take_all))]
+fn front(numbers: &[usize], most: Option<u32>) -> &[usize]
+    ensures { result.now ≡ front most numbers.now }
+{
+    match most {
+        Some(most) if (most as usize) < numbers.len() => &numbers[..most as usize],
+        _ => numbers,
+    }
+}
+
+// What is written of the nodes of these numbers.
+fn list(
+    alloc: Global,
+    tree: &Tree<'_>,
+    numbers: &[usize],
+    listing: &Listing<'_>,
+    end: &str,
+) -> Result<Output, AllocError>
+    ensures { (trees : HtmlForest) → rows_in tree.now ≡ rows_of trees → IfOk result (λ output.
+        finding_of output ≡ listing_of listing.now end.now trees (source_at tree.now) numbers.now) }
+{
+    match listing {
+        Listing::Fields(field) => field_lines(alloc, tree, numbers, *field, end),
+        Listing::Readable => readable_lines(alloc, tree, numbers),
+        Listing::Count => count_line(alloc, numbers.len(), end),
+        Listing::Objects(form) => object_array(alloc, tree, numbers, *form, end),
+        Listing::Lines(form, file) => object_lines(alloc, tree, numbers, *form, file),
+    }
+}
+
+/// What is written of the nodes of a page where a selector holds.
+pub(crate) fn selection(
+    alloc: Global,
+    tree: &Tree<'_>,
+    query: &Query<'_>,
+    end: &str,
+) -> Result<Output, AllocError>
+    ensures { (trees : HtmlForest) (ns : List ℕ) → rows_in tree.now ≡ rows_of trees →
+        let query = query.now in AreFound (page_of tree.now) query.selector.now ns
+        → IfOk result (λ output. finding_of output
+        ≡ listing_of query.listing end.now trees (source_at tree.now) (front query.most ns)) }
+{
+    let numbers = select(alloc, tree, query.selector)?;
+    let meant = front(&numbers, query.most);
+    list(alloc, tree, meant, &query.listing, end)
+}
