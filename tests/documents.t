@@ -29,7 +29,7 @@ docs/COMMANDS.md, `tl`:
   b.html:0
   $ printf '<p>a</p><p>b</p><p>c</p><p>d</p><p>e</p><p>f</p><h2 id=x>Title</h2>' >x.html
   $ tl select --json h2 x.html
-  [{"attributes":{"id":"x"},"name":"h2","node":12,"text":"Title"}]
+  [{"attributes":{"id":"x"},"name":"h2","node":15,"start":48,"end":57,"text":"Title"}]
   $ printf '<p onclick="f()">x<!-- y --></p>' >comment.html
   $ tl sanitize comment.html
   <p>x</p> (no-eol)
@@ -39,8 +39,8 @@ docs/COMMANDS.md, `tl`:
   $ tl select -q form x.html || echo 'no form'
   no form
   $ tl select --json -m1 p a.html b.html
-  {"attributes":{},"file":"a.html","name":"p","node":0,"text":""}
-  {"attributes":{},"file":"b.html","name":"p","node":0,"text":"y"}
+  {"file":"a.html","attributes":{},"name":"p","node":3,"start":0,"end":3,"text":""}
+  {"file":"b.html","attributes":{},"name":"p","node":3,"start":0,"end":3,"text":"y"}
 
 How pages are read:
 
@@ -50,25 +50,30 @@ How pages are read:
   3 < 4
   $ tl select -a @click a list.html
   f()
-  $ tl select --raw a list.html
-  <a href="/x" +40click="f()">Bread &amp; butter</a>
+  $ tl select -t 'body > ul > li:nth-child(2)' list.html
+  3 < 4
+  $ tl select a list.html
+  <a href="/x" @click="f()">Bread &amp; butter</a>
 
 JSON:
 
   $ tl select --json --tree ul list.html
-  [{"attributes":{},"name":"ul","node":0,"text":"Bread & butter3 < 4","children":[{"attributes":{},"name":"li","node":1,"children":[{"attributes":{"@click":"f()","href":"/x"},"name":"a","node":2,"children":[{"attributes":{},"name":null,"node":3,"text":"Bread & butter"}]}]},{"attributes":{},"name":"li","node":4,"children":[{"attributes":{},"name":null,"node":5,"text":"3 < 4"}]}]}]
+  [{"attributes":{},"name":"ul","node":3,"start":0,"end":4,"children":[{"attributes":{},"name":"li","node":4,"start":4,"end":8,"children":[{"attributes":{"href":"/x","@click":"f()"},"name":"a","node":5,"start":8,"end":32,"children":[{"attributes":{},"name":null,"node":6,"start":32,"end":50,"text":"Bread & butter"}]}]},{"attributes":{},"name":"li","node":7,"start":54,"end":58,"children":[{"attributes":{},"name":null,"node":8,"start":58,"end":63,"text":"3 < 4"}]}]}]
 
 Trees:
 
   $ printf '<nav id=top>\n<a class="next big" href=/2 title=t>Bread\n &amp; butter</a><input name=q required></nav><!-- end -->' >tree.html
   $ tl outline tree.html
-  nav#top
-    a.next.big[href="/2"]
-      "Bread"
-    input[name="q"]
-  <!-- end -->
+  html
+    head
+    body
+      nav#top
+        a.next.big[href="/2"]
+          "Bread"
+        input[name="q"]
+      <!-- end -->
   $ tl select -n 'a.next.big[href="/2"]' tree.html
-  2
+  5
 
 Selectors:
 
@@ -153,6 +158,3 @@ Tables, and statuses of `tl`:
   $ tl print none
   tl: none: No such file or directory (os error 2) (err)
   [4]
-  $ tl edit 'push 5 0' -- b.html
-  tl: b.html: step 1 is refused: no node has this number (err)
-  [2]

@@ -192,7 +192,6 @@ such byte; one in windows-1252 (and latin1, which is the same) has `é` for the 
   $ printf '<\000?\000X\000' | tl text
   <?X (no-eol)
   $ printf '\n\000<\000?\000x\000' | tl text
-  (empty)
   <?x (no-eol)
   $ printf '\357\273\277<\000?\000x\000' | tl text
   <?x (no-eol)
@@ -322,19 +321,19 @@ The labels are those of the standard.
 
 Bytes, and the text that they stand for.
 
-  $ printf '' | tl text --as-is --encoding utf-8
-  $ printf '\357\273\277café' | tl text --as-is --encoding utf-8
-  \u{feff}café (esc) (no-eol)
-  $ printf 'caf\351' | tl text --as-is --encoding windows-1252
+  $ printf '' | tl text --encoding utf-8
+  $ printf '\357\273\277café' | tl text --encoding utf-8
   café (no-eol)
-  $ head -c 1000000 /dev/zero | tr '\0' '\351' | tl text --as-is --encoding windows-1252 | wc -c
+  $ printf 'caf\351' | tl text --encoding windows-1252
+  café (no-eol)
+  $ head -c 1000000 /dev/zero | tr '\0' '\351' | tl text --encoding windows-1252 | wc -c
   2000000
-  $ printf 'café' | tl text --as-is --encoding windows-1252
+  $ printf 'café' | tl text --encoding windows-1252
   cafÃ© (no-eol)
-  $ printf '\200\202\203\204\205\206\207\210\211\212\213\214\216\221\222\223\224\225\226\227\230\231\232\233\234\236\237' | tl text --as-is --encoding windows-1252
+  $ printf '\200\202\203\204\205\206\207\210\211\212\213\214\216\221\222\223\224\225\226\227\230\231\232\233\234\236\237' | tl text --encoding windows-1252
   €‚ƒ„…†‡ˆ‰Š‹ŒŽ‘’“”•–—˜™š›œžŸ (no-eol)
-  $ printf '\000\177\201\215\217\220\235\240\377' | tl text --as-is --encoding windows-1252
-  \x00\x7f\x81\x8d\x8f\x90\x9d\xa0ÿ (esc) (no-eol)
+  $ printf '\000\177\201\215\217\220\235\240\377' | tl text --encoding windows-1252
+  \x7f\x81\x8d\x8f\x90\x9d\xa0ÿ (esc) (no-eol)
   $ printf 'caf\351' | tl text --encoding utf-8
   tl: -: no UTF-8 at byte 3 (err)
   [2]

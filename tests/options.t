@@ -36,55 +36,21 @@ No names of files, of each command that names them.
   0
   0
   0
-  tl: one: some of it is dropped or moved: print and edit read by the grammar of tl, not as browsers do; set, unset, rename and their like change a page in its own bytes (err)
-  [1]
-  $ tl edit --no-name 'name 0 b' -- one one | grep -c :
-  0
-  tl: one: some of it is dropped or moved: print and edit read by the grammar of tl, not as browsers do; set, unset, rename and their like change a page in its own bytes (err)
-  tl: one: some of it is dropped or moved: print and edit read by the grammar of tl, not as browsers do; set, unset, rename and their like change a page in its own bytes (err)
   [1]
 
-Values and texts of nodes as the form has them, and by the grammar of `tl`.
+Values and texts of nodes.
 
   $ tl select -a a.b p one
   1&2
-  $ tl select --raw -a a.b p one
-  1&amp;2
-  $ printf '<p A="1&amp;2">' | tl select --as-is -a A p
-  1&amp;2
-  $ tl select --raw --json -m1 p one three
-  {"attributes":{"a+2eb":"1&amp;2"},"file":"one","name":"p","node":0,"text":"x&amp;y"}
-  {"attributes":{"a":"1&amp;2"},"file":"three","name":"p","node":0,"text":"x"}
   $ tl text --in p one
   x&y
   z
-  $ tl text --raw --in p one
-  x&amp;y
-  z
-  $ tl text --as-is --in '[a="1&amp;2"]' three
-  x
-  $ printf '<p>x&amp;y</p>' | tl outline --as-is
-  p
-    "x&amp;y"
-  $ printf '<table><tr><td>x&amp;y</td></tr></table>' | tl table --as-is
-  x&amp;y
   $ tl text -w --in p one
   x&y
   z
-  $ tl text -w --raw --in p one
-  x&amp;y
-  z
-  $ tl text -w --as-is --in '[a="1&amp;2"]' three
-  x
 
-A page is not read as it is and by its form; a text that is empty is found as others are.
+A text that is empty is found as others are.
 
-  $ for words in 'select p' links text table outline; do tl $words --as-is --raw one 2>&1 | head -1; done
-  error: the argument '--as-is' cannot be used with '--raw'
-  error: the argument '--as-is' cannot be used with '--raw'
-  error: the argument '--as-is' cannot be used with '--raw'
-  error: the argument '--as-is' cannot be used with '--raw'
-  error: the argument '--as-is' cannot be used with '--raw'
   $ printf '<p>a<br>b' | tl text --in br
   (empty)
   $ printf '<p>a<br>b' | tl text -w --in br

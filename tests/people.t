@@ -122,21 +122,25 @@ Pictures, and how many have an `alt`; data of JSON, also with markup in it; the 
   $ printf '%s' '<script type="application/ld+json">{"description":"<p>Hi <b>x</b></p> and 1 < 2","t":"a<br/>b"}</script>' | tl select -t script
   {"description":"<p>Hi <b>x</b></p> and 1 < 2","t":"a<br/>b"}
   $ tl text -w blog.html
-  Bread & butter – Anna's blog
   Home
   About
   Elsewhere
   Third
   Bread & butter
+  (empty)
   First paragraph with emphasis and 3 < 4.
+  (empty)
   Second paragraph
   with a break and an address.
+  (empty)
   Cheese
+  (empty)
   Upper case
-  Item Price, EUR
-  Rye 3.20
-  White "soft" 2,10
-  Spelt & oat 4.50
+  (empty)
+  Item\x09Price, EUR (esc)
+  Rye\x093.20 (esc)
+  White "soft"\x092,10 (esc)
+  Spelt & oat\x094.50 (esc)
   One
   Two
   tricky
@@ -181,13 +185,15 @@ The first match; by a beginning; one in another; several files; values and upper
   $ tl select -a onclick '[onclick]' blog.html
   return f('a>b')
   $ printf '<p\tid="t">a\r\nb' | tl select --json p
-  [{"attributes":{"id":"t"},"name":"p","node":0,"text":"a\nb"}]
+  [{"attributes":{"id":"t"},"name":"p","node":3,"start":0,"end":10,"text":"a\nb"}]
   $ printf '<!-- a --><p>b<!-- c -->' | tl select '*'
+  <html><head></head><body><p>b<!-- c --></p></body></html>
+  <head></head>
+  <body><p>b<!-- c --></p></body>
   <p>b<!-- c --></p>
   $ printf '<!DOCTYPE html PUBLIC "-//W3C//DTD XHTML 1.0 Transitional//EN" "http://www.w3.org/TR/xhtml1/DTD/xhtml1-transitional.dtd"><p>x' | tl text -w
   x
   $ printf '<?xml version="1.0"?><title>x</title\n><p>y' | tl text -w
-  x
   y
   $ printf 'if <script>if (1 < 2) { f(); }</script> done' | tl text
   if if (1 < 2) { f(); } done (no-eol)
@@ -215,36 +221,16 @@ What people type into a comment stays as they typed it.
   $ printf '%s' '<a title='"'"'say "hi"'"'"'>w</a>' | tl sanitize
   <a title="say &quot;hi&quot;">w</a> (no-eol)
 
-As it is, by the grammar of `tl` alone.
+Names are asked and written as the page has them, those of HTML in lower case.
 
-  $ tl select --as-is -c img blog.html
-  3
-  $ tl links --as-is blog.html | head -4
-  /css/site.css
-  https://anna.example/bread
-  /small.png
-  /
-  $ printf 'I <3 you' | tl sanitize --as-is
-  I\x20 (esc) (no-eol)
-  $ printf '<p>a &amp; b</p>' | tl text --as-is
-  a &amp; b (no-eol)
-  $ printf '<P>a<p>b' | tl outline --as-is
-  P
-    "a"
-    p
-      "b"
   $ printf '<P>a<p>b' | tl outline
-  p
-    "a"
-  p
-    "b"
-  $ printf '<P>a<p>b' | tl print
-  <P>a<p>b</p></P> (no-eol)
-  $ printf '<P>a<p>b' | tl edit 'set 0 id x'
-  <P id="x">a<p>b</p></P> (no-eol)
-
-Names are asked and written as the page has them; what stands in the form is another spelling.
-
+  html
+    head
+    body
+      p
+        "a"
+      p
+        "b"
   $ printf '<a @click="f()" :Class="{a:b}" data-a.b=1>&lt;b&gt; &amp; \047c\047</a>' >names.html
   $ tl select -a @click a names.html
   f()
@@ -253,49 +239,31 @@ Names are asked and written as the page has them; what stands in the form is ano
   $ tl select -a data-a.b a names.html
   1
   $ tl select --json a names.html
-  [{"attributes":{":class":"{a:b}","@click":"f()","data-a.b":"1"},"name":"a","node":0,"text":"<b> & 'c'"}]
-  $ tl select --raw --json a names.html
-  [{"attributes":{"+40click":"f()",":class":"{a:b}","data-a+2eb":"1"},"name":"a","node":0,"text":"&lt;b> &amp; 'c'"}]
+  [{"attributes":{"@click":"f()",":class":"{a:b}","data-a.b":"1"},"name":"a","node":3,"start":0,"end":42,"text":"<b> & 'c'"}]
   $ tl select -a @click '[\@click]' names.html
   f()
   $ tl select -c '[data-a\.b="1"]' names.html
   1
   $ printf '<a title="a &amp; b">c' | tl select -t '[title="a & b"]'
   c
-  $ printf '<a title="a &amp; b">c' | tl select --as-is -t '[title="a & b"]'
-  [1]
-  $ tl select --raw -a @click a names.html
-  f()
   $ tl select a names.html
-  <a +40click="f()" :class="{a:b}" data-a+2eb="1">&lt;b> &amp; 'c'</a>
+  <a @click="f()" :class="{a:b}" data-a.b="1">&lt;b&gt; &amp; 'c'</a>
   $ tl select -H a names.html
-  &lt;b> &amp; 'c'
+  &lt;b&gt; &amp; 'c'
   $ tl select -t a names.html
   <b> & 'c'
-  $ tl select --raw -t a names.html
-  &lt;b> &amp; 'c'
   $ tl text names.html
   <b> & 'c' (no-eol)
-  $ tl text --raw names.html
-  &lt;b> &amp; 'c' (no-eol)
-  $ tl text -w --raw names.html
-  &lt;b> &amp; 'c'
   $ printf '<o:p>a &lt; b</o:p><x.y>c' | tl outline
-  o\:p
-    "a < b"
-  x\.y
-    "c"
-  $ printf '<o:p>a &lt; b</o:p><x.y>c' | tl outline --raw
-  o\:p
-    "a &lt; b"
-  x\+2ey
-    "c"
+  html
+    head
+    body
+      o\:p
+        "a < b"
+      x\.y
+        "c"
   $ printf '<a href="?q=1&amp;r=2&lt=3">' | tl links
   ?q=1&r=2&lt=3
-  $ printf '<a href="?q=1&amp;r=2&lt=3">' | tl links --raw
-  ?q=1&amp;r=2&amp;lt=3
-  $ printf '<a href="?q=1&amp;r=2&lt=3">' | tl links --as-is
-  ?q=1&amp;r=2&lt=3
   $ printf '<a href="?q=1&amp;r=2">' | tl links -0
   ?q=1&r=2\x00 (esc) (no-eol)
 
@@ -315,8 +283,11 @@ Encodings.
   $ tl select --encoding latin1 -t p latin1.html
   café €
   $ tl outline --encoding latin1 latin1.html
-  p
-    "café €"
+  html
+    head
+    body
+      p
+        "café €"
   $ printf '<a href=\351><table><tr><td>\200' | tl links --encoding latin1
   é
   $ printf '<a href=\351><table><tr><td>\200' | tl table --encoding latin1
@@ -386,21 +357,13 @@ Encodings.
   tl: no encoding that is read: utf-16 (err)
   [2]
   $ tl print meta.html
-  <meta charset="ISO-8859-1"><p>café €</p> (no-eol)
-  tl: meta.html: some of it is dropped or moved: print and edit read by the grammar of tl, not as browsers do; set, unset, rename and their like change a page in its own bytes (err)
+  <!DOCTYPE html><html><head><meta charset="ISO-8859-1"></head><body><p>café €</p></body></html> (no-eol)
   $ tl print --encoding latin1 latin1.html
-  <p>café €</p> (no-eol)
+  <html><head></head><body><p>café €</p></body></html> (no-eol)
   $ tl sanitize meta.html
   <p>café €</p> (no-eol)
   $ tl sanitize --encoding latin1 latin1.html
   <p>café €</p> (no-eol)
-  $ tl edit 'set 0 id x' -- meta.html
-  tl: meta.html: no UTF-8 at byte 48 (err)
-  [2]
-  $ tl edit --encoding latin1 'set 0 id x' -- latin1.html
-  error: unexpected argument '--encoding' found (err)
-  ...
-  [2]
 
 Forms of today's pages, one on each line; below each is what it holds.
 
@@ -457,65 +420,59 @@ Forms of today's pages, one on each line; below each is what it holds.
   > <a href="x" / id="y">t</a>
   > END
   $ while read -r page; do printf '%b' "$page" | tl select --json '*'; done <forms
-  [{"attributes":{":class":"{a:b}","@click":"f()","v-if":"x"},"name":"button","node":0,"text":"t"}]
-  [{"attributes":{"#ref":"","(click)":"c()","*ngif":"a","[value]":"b"},"name":"div","node":0,"text":"t"}]
-  [{"attributes":{"href":"/y","x-on:click.prevent":"f"},"name":"a","node":0,"text":"t"}]
-  [{"attributes":{"class":"y","href":"/x"},"name":"a","node":0,"text":"t"}]
-  [{"attributes":{"lang":"en","⚡":""},"name":"html","node":0,"text":"x"},{"attributes":{},"name":"p","node":1,"text":"x"}]
-  [{"attributes":{},"name":"p","node":1,"text":"x"}]
-  [{"attributes":{},"name":"p","node":1,"text":"x"}]
-  [{"attributes":{},"name":"p","node":0,"text":"a"},{"attributes":{},"name":"o:p","node":2,"text":""}]
-  [{"attributes":{"data-a.b":"1","id":"x"},"name":"div","node":0,"text":"t"}]
-  [{"attributes":{"href":"/x"},"name":"a","node":0,"text":"t"}]
-  [{"attributes":{"href":"/x"},"name":"a","node":0,"text":"t"}]
-  [{"attributes":{"href":"/x","id":"q"},"name":"a","node":0,"text":"t"}]
-  [{"attributes":{"name":"n","value":"a/b/c"},"name":"input","node":0,"text":""}]
-  [{"attributes":{"alt":"x","src":"/a.png"},"name":"img","node":0,"text":""}]
-  [{"attributes":{"href":"?q=1&r=2"},"name":"a","node":0,"text":"t"}]
-  []
-  [{"attributes":{"color":"#fff"},"name":"font","node":0,"text":"t"}]
-  [{"attributes":{"href":"#top"},"name":"a","node":0,"text":"t"}]
-  [{"attributes":{"style":"color:red;top:1px"},"name":"div","node":0,"text":"t"}]
-  [{"attributes":{"class":"a\nb"},"name":"p","node":0,"text":"t"}]
-  [{"attributes":{"href":"/x","title":">"},"name":"a","node":0,"text":"t"}]
-  [{"attributes":{"clear":"all"},"name":"br","node":0,"text":""}]
-  [{"attributes":{},"name":"p","node":0,"text":"x"},{"attributes":{},"name":"p","node":2,"text":"y"}]
-  [{"attributes":{"href":"/x"},"name":"a","node":0,"text":"t"}]
-  [{"attributes":{"href":"/x"},"name":"a","node":0,"text":"t"}]
-  [{"attributes":{"selected":"","value":"1"},"name":"option","node":0,"text":"One"}]
-  [{"attributes":{},"name":"script","node":0,"text":"document.write(\"<a href='/w'>w</a>\")"},{"attributes":{},"name":"p","node":2,"text":"x"}]
-  [{"attributes":{},"name":"style","node":0,"text":"a>b{c:d}"},{"attributes":{},"name":"p","node":2,"text":"x"}]
-  [{"attributes":{},"name":"style","node":0,"text":"@import \"<x>\";"},{"attributes":{},"name":"p","node":2,"text":"x"}]
-  [{"attributes":{},"name":"textarea","node":0,"text":"<p>no</p>"},{"attributes":{},"name":"p","node":2,"text":"x"}]
-  [{"attributes":{},"name":"title","node":0,"text":"a<b>c"},{"attributes":{},"name":"p","node":2,"text":"x"}]
-  [{"attributes":{},"name":"svg","node":0,"text":""},{"attributes":{"d":"M0 0"},"name":"path","node":1,"text":""},{"attributes":{},"name":"p","node":2,"text":"x"}]
-  [{"attributes":{},"name":"p","node":0,"text":"1 < 2"},{"attributes":{},"name":"p","node":2,"text":"x"}]
-  [{"attributes":{},"name":"p","node":0,"text":"a < b"}]
-  [{"attributes":{},"name":"noscript","node":0,"text":""},{"attributes":{"src":"/n.png"},"name":"img","node":1,"text":""},{"attributes":{},"name":"p","node":2,"text":"x"}]
-  [{"attributes":{"src":"/f"},"name":"iframe","node":0,"text":"fallback <p>"},{"attributes":{},"name":"p","node":2,"text":"x"}]
-  [{"attributes":{},"name":"ul","node":0,"text":"ab"},{"attributes":{},"name":"li","node":1,"text":"a"},{"attributes":{},"name":"li","node":3,"text":"b"},{"attributes":{},"name":"p","node":5,"text":"x"}]
-  [{"attributes":{},"name":"table","node":0,"text":"123"},{"attributes":{},"name":"tr","node":1,"text":"12"},{"attributes":{},"name":"td","node":2,"text":"1"},{"attributes":{},"name":"td","node":4,"text":"2"},{"attributes":{},"name":"tr","node":6,"text":"3"},{"attributes":{},"name":"td","node":7,"text":"3"}]
-  [{"attributes":{},"name":"p","node":0,"text":"a"},{"attributes":{},"name":"div","node":2,"text":"b"},{"attributes":{},"name":"p","node":5,"text":""}]
-  [{"attributes":{},"name":"p","node":0,"text":"a"},{"attributes":{},"name":"p","node":2,"text":"b"}]
-  [{"attributes":{},"name":"b","node":0,"text":"x"},{"attributes":{},"name":"i","node":1,"text":"x"}]
-  [{"attributes":{"href":"/1"},"name":"a","node":0,"text":"a"},{"attributes":{"href":"/2"},"name":"a","node":2,"text":"b"}]
-  [{"attributes":{},"name":"select","node":0,"text":"12"},{"attributes":{},"name":"option","node":1,"text":"1"},{"attributes":{},"name":"option","node":3,"text":"2"},{"attributes":{},"name":"p","node":5,"text":"x"}]
-  [{"attributes":{"controls":"","src":"v.mp4"},"name":"video","node":0,"text":""}]
-  [{"attributes":{"datetime":"2024-01-01T10:00"},"name":"time","node":0,"text":"t"}]
-  [{"attributes":{"content":"width=device-width","name":"viewport"},"name":"meta","node":0,"text":""}]
-  [{"attributes":{"href":"style.css","rel":"stylesheet"},"name":"link","node":0,"text":""}]
-  [{"attributes":{"href":"https://x.org/a"},"name":"a","node":0,"text":"t"}]
-  [{"attributes":{"onload":"init()"},"name":"body","node":0,"text":"x"}]
-  [{"attributes":{"href":"x","id":"y"},"name":"a","node":0,"text":"t"}]
+  [{"attributes":{},"name":"html","node":0,"text":"t"},{"attributes":{},"name":"head","node":1,"text":""},{"attributes":{},"name":"body","node":2,"text":"t"},{"attributes":{"@click":"f()",":class":"{a:b}","v-if":"x"},"name":"button","node":3,"start":0,"end":45,"text":"t"}]
+  [{"attributes":{},"name":"html","node":0,"text":"t"},{"attributes":{},"name":"head","node":1,"text":""},{"attributes":{},"name":"body","node":2,"text":"t"},{"attributes":{"*ngif":"a","[value]":"b","(click)":"c()","#ref":""},"name":"div","node":3,"start":0,"end":46,"text":"t"}]
+  [{"attributes":{},"name":"html","node":0,"text":"t"},{"attributes":{},"name":"head","node":1,"text":""},{"attributes":{},"name":"body","node":2,"text":"t"},{"attributes":{"x-on:click.prevent":"f","href":"/y"},"name":"a","node":3,"start":0,"end":36,"text":"t"}]
+  [{"attributes":{},"name":"html","node":0,"text":"t"},{"attributes":{},"name":"head","node":1,"text":""},{"attributes":{},"name":"body","node":2,"text":"t"},{"attributes":{"href":"/x","class":"y"},"name":"a","node":3,"start":0,"end":22,"text":"t"}]
+  [{"attributes":{"⚡":"","lang":"en"},"name":"html","node":0,"start":0,"end":20,"text":"x"},{"attributes":{},"name":"head","node":1,"text":""},{"attributes":{},"name":"body","node":2,"text":"x"},{"attributes":{},"name":"p","node":3,"start":20,"end":23,"text":"x"}]
+  [{"attributes":{},"name":"html","node":1,"text":"x"},{"attributes":{},"name":"head","node":2,"text":""},{"attributes":{},"name":"body","node":3,"text":"x"},{"attributes":{},"name":"p","node":4,"start":58,"end":61,"text":"x"}]
+  [{"attributes":{},"name":"html","node":1,"text":"x"},{"attributes":{},"name":"head","node":2,"text":""},{"attributes":{},"name":"body","node":3,"text":"x"},{"attributes":{},"name":"p","node":4,"start":11,"end":14,"text":"x"}]
+  [{"attributes":{},"name":"html","node":0,"text":"a"},{"attributes":{},"name":"head","node":1,"text":""},{"attributes":{},"name":"body","node":2,"text":"a"},{"attributes":{},"name":"p","node":3,"start":0,"end":3,"text":"a"},{"attributes":{},"name":"o:p","node":5,"start":4,"end":9,"text":""}]
+  [{"attributes":{},"name":"html","node":0,"text":"t"},{"attributes":{},"name":"head","node":1,"text":""},{"attributes":{},"name":"body","node":2,"text":"t"},{"attributes":{"data-a.b":"1","id":"x"},"name":"div","node":3,"start":0,"end":23,"text":"t"}]
+  [{"attributes":{},"name":"html","node":0,"text":"t"},{"attributes":{},"name":"head","node":1,"text":""},{"attributes":{},"name":"body","node":2,"text":"t"},{"attributes":{"href":"/x"},"name":"a","node":3,"start":0,"end":23,"text":"t"}]
+  [{"attributes":{},"name":"html","node":0,"text":"t"},{"attributes":{},"name":"head","node":1,"text":""},{"attributes":{},"name":"body","node":2,"text":"t"},{"attributes":{"href":"/x"},"name":"a","node":3,"start":0,"end":16,"text":"t"}]
+  [{"attributes":{},"name":"html","node":0,"text":"t"},{"attributes":{},"name":"head","node":1,"text":""},{"attributes":{},"name":"body","node":2,"text":"t"},{"attributes":{"href":"/x","id":"q"},"name":"a","node":3,"start":0,"end":20,"text":"t"}]
+  [{"attributes":{},"name":"html","node":0,"text":""},{"attributes":{},"name":"head","node":1,"text":""},{"attributes":{},"name":"body","node":2,"text":""},{"attributes":{"value":"a/b/c","name":"n"},"name":"input","node":3,"start":0,"end":26,"text":""}]
+  [{"attributes":{},"name":"html","node":0,"text":""},{"attributes":{},"name":"head","node":1,"text":""},{"attributes":{},"name":"body","node":2,"text":""},{"attributes":{"src":"/a.png","alt":"x"},"name":"img","node":3,"start":0,"end":24,"text":""}]
+  [{"attributes":{},"name":"html","node":0,"text":"t"},{"attributes":{},"name":"head","node":1,"text":""},{"attributes":{},"name":"body","node":2,"text":"t"},{"attributes":{"href":"?q=1&r=2"},"name":"a","node":3,"start":0,"end":17,"text":"t"}]
+  [{"attributes":{},"name":"html","node":0,"text":"t"},{"attributes":{},"name":"head","node":1,"text":""},{"attributes":{},"name":"body","node":2,"text":"t"}]
+  [{"attributes":{},"name":"html","node":0,"text":"t"},{"attributes":{},"name":"head","node":1,"text":""},{"attributes":{},"name":"body","node":2,"text":"t"},{"attributes":{"color":"#fff"},"name":"font","node":3,"start":0,"end":17,"text":"t"}]
+  [{"attributes":{},"name":"html","node":0,"text":"t"},{"attributes":{},"name":"head","node":1,"text":""},{"attributes":{},"name":"body","node":2,"text":"t"},{"attributes":{"href":"#top"},"name":"a","node":3,"start":0,"end":13,"text":"t"}]
+  [{"attributes":{},"name":"html","node":0,"text":"t"},{"attributes":{},"name":"head","node":1,"text":""},{"attributes":{},"name":"body","node":2,"text":"t"},{"attributes":{"style":"color:red;top:1px"},"name":"div","node":3,"start":0,"end":29,"text":"t"}]
+  [{"attributes":{},"name":"html","node":0,"text":"t"},{"attributes":{},"name":"head","node":1,"text":""},{"attributes":{},"name":"body","node":2,"text":"t"},{"attributes":{"class":"a\nb"},"name":"p","node":3,"start":0,"end":15,"text":"t"}]
+  [{"attributes":{},"name":"html","node":0,"text":"t"},{"attributes":{},"name":"head","node":1,"text":""},{"attributes":{},"name":"body","node":2,"text":"t"},{"attributes":{"title":">","href":"/x"},"name":"a","node":3,"start":0,"end":23,"text":"t"}]
+  [{"attributes":{},"name":"html","node":0,"text":"t"},{"attributes":{},"name":"head","node":1,"text":""},{"attributes":{},"name":"body","node":2,"text":"t"},{"attributes":{"clear":"all"},"name":"br","node":3,"start":0,"end":14,"text":""}]
+  [{"attributes":{},"name":"html","node":0,"text":"xy"},{"attributes":{},"name":"head","node":1,"text":""},{"attributes":{},"name":"body","node":2,"text":"xy"},{"attributes":{},"name":"p","node":3,"start":0,"end":3,"text":"x"},{"attributes":{},"name":"p","node":5,"start":9,"end":12,"text":"y"}]
+  [{"attributes":{},"name":"html","node":0,"text":"t"},{"attributes":{},"name":"head","node":1,"text":""},{"attributes":{},"name":"body","node":2,"text":"t"},{"attributes":{"href":"/x"},"name":"a","node":3,"start":0,"end":13,"text":"t"}]
+  [{"attributes":{},"name":"html","node":0,"text":"t"},{"attributes":{},"name":"head","node":1,"text":""},{"attributes":{},"name":"body","node":2,"text":"t"},{"attributes":{"href":"/x"},"name":"a","node":3,"start":0,"end":13,"text":"t"}]
+  [{"attributes":{},"name":"html","node":0,"text":"One"},{"attributes":{},"name":"head","node":1,"text":""},{"attributes":{},"name":"body","node":2,"text":"One"},{"attributes":{"selected":"","value":"1"},"name":"option","node":3,"start":0,"end":25,"text":"One"}]
+  [{"attributes":{},"name":"html","node":0,"text":"document.write(\"<a href='/w'>w</a>\")x"},{"attributes":{},"name":"head","node":1,"text":"document.write(\"<a href='/w'>w</a>\")"},{"attributes":{},"name":"script","node":2,"start":0,"end":8,"text":"document.write(\"<a href='/w'>w</a>\")"},{"attributes":{},"name":"body","node":4,"text":"x"},{"attributes":{},"name":"p","node":5,"start":53,"end":56,"text":"x"}]
+  [{"attributes":{},"name":"html","node":0,"text":"a>b{c:d}x"},{"attributes":{},"name":"head","node":1,"text":"a>b{c:d}"},{"attributes":{},"name":"style","node":2,"start":0,"end":7,"text":"a>b{c:d}"},{"attributes":{},"name":"body","node":4,"text":"x"},{"attributes":{},"name":"p","node":5,"start":23,"end":26,"text":"x"}]
+  [{"attributes":{},"name":"html","node":0,"text":"@import \"<x>\";x"},{"attributes":{},"name":"head","node":1,"text":"@import \"<x>\";"},{"attributes":{},"name":"style","node":2,"start":0,"end":7,"text":"@import \"<x>\";"},{"attributes":{},"name":"body","node":4,"text":"x"},{"attributes":{},"name":"p","node":5,"start":29,"end":32,"text":"x"}]
+  [{"attributes":{},"name":"html","node":0,"text":"<p>no</p>x"},{"attributes":{},"name":"head","node":1,"text":""},{"attributes":{},"name":"body","node":2,"text":"<p>no</p>x"},{"attributes":{},"name":"textarea","node":3,"start":0,"end":10,"text":"<p>no</p>"},{"attributes":{},"name":"p","node":5,"start":30,"end":33,"text":"x"}]
+  [{"attributes":{},"name":"html","node":0,"text":"a<b>cx"},{"attributes":{},"name":"head","node":1,"text":"a<b>c"},{"attributes":{},"name":"title","node":2,"start":0,"end":7,"text":"a<b>c"},{"attributes":{},"name":"body","node":4,"text":"x"},{"attributes":{},"name":"p","node":5,"start":20,"end":23,"text":"x"}]
+  [{"attributes":{},"name":"html","node":0,"text":"x"},{"attributes":{},"name":"head","node":1,"text":""},{"attributes":{},"name":"body","node":2,"text":"x"},{"attributes":{},"name":"svg","namespace":"svg","node":3,"start":0,"end":5,"text":""},{"attributes":{"d":"M0 0"},"name":"path","namespace":"svg","node":4,"start":5,"end":21,"text":""},{"attributes":{},"name":"p","node":5,"start":27,"end":30,"text":"x"}]
+  [{"attributes":{},"name":"html","node":0,"text":"1 < 2x"},{"attributes":{},"name":"head","node":1,"text":""},{"attributes":{},"name":"body","node":2,"text":"1 < 2x"},{"attributes":{},"name":"p","node":3,"start":0,"end":3,"text":"1 < 2"},{"attributes":{},"name":"p","node":5,"start":12,"end":15,"text":"x"}]
+  [{"attributes":{},"name":"html","node":0,"text":"a < b"},{"attributes":{},"name":"head","node":1,"text":""},{"attributes":{},"name":"body","node":2,"text":"a < b"},{"attributes":{},"name":"p","node":3,"start":0,"end":3,"text":"a < b"}]
+  [{"attributes":{},"name":"html","node":0,"text":"x"},{"attributes":{},"name":"head","node":1,"text":""},{"attributes":{},"name":"noscript","node":2,"start":0,"end":10,"text":""},{"attributes":{},"name":"body","node":3,"text":"x"},{"attributes":{"src":"/n.png"},"name":"img","node":4,"start":10,"end":28,"text":""},{"attributes":{},"name":"p","node":5,"start":39,"end":42,"text":"x"}]
+  [{"attributes":{},"name":"html","node":0,"text":"fallback <p>x"},{"attributes":{},"name":"head","node":1,"text":""},{"attributes":{},"name":"body","node":2,"text":"fallback <p>x"},{"attributes":{"src":"/f"},"name":"iframe","node":3,"start":0,"end":17,"text":"fallback <p>"},{"attributes":{},"name":"p","node":5,"start":38,"end":41,"text":"x"}]
+  [{"attributes":{},"name":"html","node":0,"text":"abx"},{"attributes":{},"name":"head","node":1,"text":""},{"attributes":{},"name":"body","node":2,"text":"abx"},{"attributes":{},"name":"ul","node":3,"start":0,"end":4,"text":"ab"},{"attributes":{},"name":"li","node":4,"start":4,"end":8,"text":"a"},{"attributes":{},"name":"li","node":6,"start":9,"end":13,"text":"b"},{"attributes":{},"name":"p","node":8,"start":19,"end":22,"text":"x"}]
+  [{"attributes":{},"name":"html","node":0,"text":"123"},{"attributes":{},"name":"head","node":1,"text":""},{"attributes":{},"name":"body","node":2,"text":"123"},{"attributes":{},"name":"table","node":3,"start":0,"end":7,"text":"123"},{"attributes":{},"name":"tbody","node":4,"text":"123"},{"attributes":{},"name":"tr","node":5,"start":7,"end":11,"text":"12"},{"attributes":{},"name":"td","node":6,"start":11,"end":15,"text":"1"},{"attributes":{},"name":"td","node":8,"start":16,"end":20,"text":"2"},{"attributes":{},"name":"tr","node":10,"start":21,"end":25,"text":"3"},{"attributes":{},"name":"td","node":11,"start":25,"end":29,"text":"3"}]
+  [{"attributes":{},"name":"html","node":0,"text":"abc"},{"attributes":{},"name":"head","node":1,"text":""},{"attributes":{},"name":"body","node":2,"text":"abc"},{"attributes":{},"name":"p","node":3,"start":0,"end":3,"text":"a"},{"attributes":{},"name":"div","node":5,"start":4,"end":9,"text":"b"},{"attributes":{},"name":"p","node":8,"text":""}]
+  [{"attributes":{},"name":"html","node":0,"text":"ab"},{"attributes":{},"name":"head","node":1,"text":""},{"attributes":{},"name":"body","node":2,"text":"ab"},{"attributes":{},"name":"p","node":3,"start":0,"end":3,"text":"a"},{"attributes":{},"name":"p","node":5,"start":4,"end":7,"text":"b"}]
+  [{"attributes":{},"name":"html","node":0,"text":"xy"},{"attributes":{},"name":"head","node":1,"text":""},{"attributes":{},"name":"body","node":2,"text":"xy"},{"attributes":{},"name":"b","node":3,"start":0,"end":3,"text":"x"},{"attributes":{},"name":"i","node":4,"start":3,"end":6,"text":"x"},{"attributes":{},"name":"i","node":6,"start":3,"end":6,"text":"y"}]
+  [{"attributes":{},"name":"html","node":0,"text":"ab"},{"attributes":{},"name":"head","node":1,"text":""},{"attributes":{},"name":"body","node":2,"text":"ab"},{"attributes":{"href":"/1"},"name":"a","node":3,"start":0,"end":13,"text":"a"},{"attributes":{"href":"/2"},"name":"a","node":5,"start":14,"end":27,"text":"b"}]
+  [{"attributes":{},"name":"html","node":0,"text":"12x"},{"attributes":{},"name":"head","node":1,"text":""},{"attributes":{},"name":"body","node":2,"text":"12x"},{"attributes":{},"name":"select","node":3,"start":0,"end":8,"text":"12"},{"attributes":{},"name":"option","node":4,"start":8,"end":16,"text":"1"},{"attributes":{},"name":"option","node":6,"start":17,"end":25,"text":"2"},{"attributes":{},"name":"p","node":8,"start":35,"end":38,"text":"x"}]
+  [{"attributes":{},"name":"html","node":0,"text":""},{"attributes":{},"name":"head","node":1,"text":""},{"attributes":{},"name":"body","node":2,"text":""},{"attributes":{"src":"v.mp4","controls":""},"name":"video","node":3,"start":0,"end":26,"text":""}]
+  [{"attributes":{},"name":"html","node":0,"text":"t"},{"attributes":{},"name":"head","node":1,"text":""},{"attributes":{},"name":"body","node":2,"text":"t"},{"attributes":{"datetime":"2024-01-01T10:00"},"name":"time","node":3,"start":0,"end":32,"text":"t"}]
+  [{"attributes":{},"name":"html","node":0,"text":""},{"attributes":{},"name":"head","node":1,"text":""},{"attributes":{"name":"viewport","content":"width=device-width"},"name":"meta","node":2,"start":0,"end":47,"text":""},{"attributes":{},"name":"body","node":3,"text":""}]
+  [{"attributes":{},"name":"html","node":0,"text":""},{"attributes":{},"name":"head","node":1,"text":""},{"attributes":{"rel":"stylesheet","href":"style.css"},"name":"link","node":2,"start":0,"end":36,"text":""},{"attributes":{},"name":"body","node":3,"text":""}]
+  [{"attributes":{},"name":"html","node":0,"text":"t"},{"attributes":{},"name":"head","node":1,"text":""},{"attributes":{},"name":"body","node":2,"text":"t"},{"attributes":{"href":"https://x.org/a"},"name":"a","node":3,"start":0,"end":24,"text":"t"}]
+  [{"attributes":{},"name":"html","node":0,"text":"x"},{"attributes":{},"name":"head","node":1,"text":""},{"attributes":{"onload":"init()"},"name":"body","node":2,"start":0,"end":20,"text":"x"}]
+  [{"attributes":{},"name":"html","node":0,"text":"t"},{"attributes":{},"name":"head","node":1,"text":""},{"attributes":{},"name":"body","node":2,"text":"t"},{"attributes":{"href":"x","id":"y"},"name":"a","node":3,"start":0,"end":21,"text":"t"}]
 
 Help says how pages are read.
 
-  $ for command in select links text outline sanitize; do tl $command --help >help && grep -c -e '--as-is' help; done
-  2
-  1
-  1
-  2
-  1
   $ for command in select links text print outline sanitize; do tl $command --help >help && grep -c -e '--encoding' help; done
   1
   1
@@ -523,9 +480,5 @@ Help says how pages are read.
   1
   1
   1
-  $ tl outline --help | grep -o '^The numbers that edit takes.*'
-  The numbers that edit takes are those that -n gives with --as-is.
-  $ tl select --help | grep -o 'edit takes those of --as-is'
-  edit takes those of --as-is
-  $ tl --help | grep -o '^Pages are read as browsers read them'
-  Pages are read as browsers read them
+  $ tl --help | grep -o '^Pages are read into the tree that browsers build of them'
+  Pages are read into the tree that browsers build of them

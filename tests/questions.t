@@ -2,188 +2,237 @@ What is asked of pages: their text line by line, their outline, tables, links, f
 
 The text of a page, block by block.
 
-  $ printf '' | tl text -w --as-is
-  $ printf ' \n\t' | tl text -w --as-is
-  $ printf 'a  b\nc' | tl text -w --as-is
+  $ printf '' | tl text -w
+  $ printf ' \n\t' | tl text -w
+  $ printf 'a  b\nc' | tl text -w
   a b c
-  $ printf '<p>a</p>b<p>c' | tl text -w --as-is
+  $ printf '<p>a</p>b<p>c' | tl text -w
   a
+  (empty)
   b
+  (empty)
   c
-  $ printf 'a<b>b</b>c' | tl text -w --as-is
+  $ printf 'a<b>b</b>c' | tl text -w
   abc
-  $ printf '<td>a</td><td>b</td>' | tl text -w --as-is
-  a b
-  $ printf 'a<br>b' | tl text -w --as-is
+  $ printf '<td>a</td><td>b</td>' | tl text -w
+  ab
+  $ printf '<table><td>a</td><td>b</td></table>' | tl text -w
+  a\x09b (esc)
+  $ printf 'a<br>b' | tl text -w
   a
   b
-  $ printf 'a<!-- x -->b' | tl text -w --as-is
+  $ printf 'a<!-- x -->b' | tl text -w
   ab
-  $ printf '<script>x</script>a<style>y</style>b' | tl text -w --as-is
+  $ printf '<script>x</script>a<style>y</style>b' | tl text -w
   ab
-  $ printf '<SCRIPT>x<p>y</p></SCRIPT>a' | tl text -w --as-is
+  $ printf '<SCRIPT>x<p>y</p></SCRIPT>a' | tl text -w
   a
-  $ printf '<select><option>A</option><option>B</option></select>' | tl text -w --as-is
+  $ printf '<select><option>A</option><option>B</option></select>' | tl text -w
   A
   B
-  $ printf '<select><option>A<option>B</select>' | tl text -w --as-is
+  $ printf '<select><option>A<option>B</select>' | tl text -w
   A
   B
-  $ printf '<figure>a<figcaption>b</figcaption></figure>c' | tl text -w --as-is
+  $ printf '<figure>a<figcaption>b</figcaption></figure>c' | tl text -w
   a
   b
   c
-  $ printf '<fieldset><legend>a</legend>b</fieldset>' | tl text -w --as-is
+  $ printf '<fieldset><legend>a</legend>b</fieldset>' | tl text -w
   a
   b
-  $ printf '<details><summary>a</summary>b</details>' | tl text -w --as-is
+  $ printf '<details><summary>a</summary>b</details>' | tl text -w
   a
   b
-  $ printf '<table><caption>a</caption><tr><td>b</td></tr></table>' | tl text -w --as-is
+  $ printf '<table><caption>a</caption><tr><td>b</td></tr></table>' | tl text -w
   a
   b
-  $ printf '<aside>a</aside><address>b</address>c' | tl text -w --as-is
+  $ printf '<aside>a</aside><address>b</address>c' | tl text -w
   a
   b
   c
-  $ printf '<form>a</form><dialog>b</dialog><menu>c</menu>d' | tl text -w --as-is
+  $ printf '<form>a</form><dialog>b</dialog><menu>c</menu>d' | tl text -w
   a
-  b
   c
   d
-  $ printf '<html><body>a</body></html>b' | tl text -w --as-is
-  a
-  b
-  $ printf '<optgroup>a</optgroup><center>b</center><hgroup>c</hgroup><search>d</search>e' | tl text -w --as-is
+  $ printf '<html><body>a</body></html>b' | tl text -w
+  ab
+  $ printf '<optgroup>a</optgroup><center>b</center><hgroup>c</hgroup><search>d</search>e' | tl text -w
   a
   b
   c
   d
   e
-  $ printf 'é<i>😀</i> é' | tl text -w --as-is
+  $ printf 'é<i>😀</i> é' | tl text -w
   é😀 é
-  $ printf '<p>&amp;</p>' | tl text -w --as-is
-  &amp;
+  $ printf '<p>&amp;</p>' | tl text -w
+  &
 
 The outline of a page: a tree of selectors.
 
-  $ printf '' | tl outline --as-is
-  $ printf '<p>a<br></p>\n' | tl outline --as-is
-  p
-    "a"
-    br
-  $ printf '<!--a\nb-->' | tl outline --as-is
-  <!--a
-  $ printf '\n  a  b \nc' | tl outline --as-is
-  "a b"
-  $ printf '<p><b></b><i></i></p>c' | tl outline --as-is
-  p
-    b
-    i
-  "c"
-  $ printf '<p><b><i></i></b></p><u></u>' | tl outline --as-is
-  p
-    b
-      i
-  u
-  $ printf '<a id="x" class=" y  z " href="/q">' | tl outline --as-is
-  a#x.y.z[href="/q"]
-  $ printf '<a href="/q" name="n" title="t">' | tl outline --as-is
-  a[name="n"][href="/q"]
-  $ printf '<a id="" class="" href="">' | tl outline --as-is
-  a[href=""]
-  $ printf '<input type name="a\\b">' | tl outline --as-is
-  input[name="a\\b"][type]
-  $ printf '<p id="a:b" class="1x -y é w/2">' | tl outline --as-is
-  p#a\:b.\31 x.\-y.é.w\/2
-  $ printf '<p id="a\tb"><o:p>' | tl outline --as-is
-  p#a\09 b
-    o\:p
-  $ printf '<a href="\177\n">' | tl outline --as-is
-  a[href="\7f \0a "]
-  $ printf '<?a name="b">c' | tl outline --as-is
-  *[name="b"]
-    "c"
+  $ printf '' | tl outline
+  html
+    head
+    body
+  $ printf '<p>a<br></p>\n' | tl outline
+  html
+    head
+    body
+      p
+        "a"
+        br
+  $ printf '<!--a\nb-->' | tl outline
+  <!-- a -->
+  html
+    head
+    body
+  $ printf '\n  a  b \nc' | tl outline
+  html
+    head
+    body
+      "a b"
+  $ printf '<p><b></b><i></i></p>c' | tl outline
+  html
+    head
+    body
+      p
+        b
+        i
+      "c"
+  $ printf '<p><b><i></i></b></p><u></u>' | tl outline
+  html
+    head
+    body
+      p
+        b
+          i
+      u
+  $ printf '<a id="x" class=" y  z " href="/q">' | tl outline
+  html
+    head
+    body
+      a#x.y.z[href="/q"]
+  $ printf '<a href="/q" name="n" title="t">' | tl outline
+  html
+    head
+    body
+      a[name="n"][href="/q"]
+  $ printf '<a id="" class="" href="">' | tl outline
+  html
+    head
+    body
+      a[href=""]
+  $ printf '<input type name="a\\b">' | tl outline
+  html
+    head
+    body
+      input[name="a\\b"][type=""]
+  $ printf '<p id="a:b" class="1x -y é w/2">' | tl outline
+  html
+    head
+    body
+      p#a\:b.\31 x.\-y.é.w\/2
+  $ printf '<p id="a\tb"><o:p>' | tl outline
+  html
+    head
+    body
+      p#a\09 b
+        o\:p
+  $ printf '<a href="\177\n">' | tl outline
+  html
+    head
+    body
+      a[href="\7f \0a "]
+  $ printf '<?a name="b">c' | tl outline
+  <!-- ?a name="b" -->
+  html
+    head
+    body
+      "c"
 
 Each node with its number.
 
-  $ printf '<p>a<br></p>\n' | tl outline -n --as-is
-  0\x09p (esc)
-  1\x09  "a" (esc)
-  2\x09  br (esc)
-  3\x09"" (esc)
-  $ printf '<p>\n<b>' | tl outline -n --as-is
-  0\x09p (esc)
-  1\x09  "" (esc)
-  2\x09  b (esc)
+  $ printf '<p>a<br></p>\n' | tl outline -n
+  0\x09html (esc)
+  1\x09  head (esc)
+  2\x09  body (esc)
+  3\x09    p (esc)
+  4\x09      "a" (esc)
+  5\x09      br (esc)
+  6\x09    "" (esc)
+  $ printf '<p>\n<b>' | tl outline -n
+  0\x09html (esc)
+  1\x09  head (esc)
+  2\x09  body (esc)
+  3\x09    p (esc)
+  4\x09      "" (esc)
+  5\x09      b (esc)
 
 How deep a node is, where it is very deep.
 
-  $ python3 -c 'print("<b>" * 65, end="")' | tl outline --as-is | tail -n 1
-                                                                                                                                  b
-  $ python3 -c 'print("<b>" * 66, end="")' | tl outline --as-is | tail -n 1
-                                                                                                                                  (65) b
-  $ python3 -c 'print("<b>" * 1001, end="")' | tl outline --as-is | tail -n 1
-                                                                                                                                  (1000) b
+  $ python3 -c 'print("<b>" * 65, end="")' | tl outline | tail -n 1
+                                                                                                                                  (66) b
+  $ python3 -c 'print("<b>" * 66, end="")' | tl outline | tail -n 1
+                                                                                                                                  (67) b
+  $ python3 -c 'print("<b>" * 1001, end="")' | tl outline | tail -n 1
+                                                                                                                                  (1002) b
 
 The rows and cells of a table, of the number that is asked for, from 1.
 
-  $ printf '<table><tr><td>a</td><td>b</td></tr></table>' | tl table --as-is
+  $ printf '<table><tr><td>a</td><td>b</td></tr></table>' | tl table
   a,b
-  $ printf '<table><thead><tr><th>h</th></tr></thead><tbody><tr><td>b</td></tr></tbody></table>' | tl table --as-is
+  $ printf '<table><thead><tr><th>h</th></tr></thead><tbody><tr><td>b</td></tr></tbody></table>' | tl table
   h
   b
-  $ printf '<table><tfoot><tr><td>f</td></tr></tfoot><tr><td>r</td></tr></table>' | tl table --as-is
-  f
+  $ printf '<table><tfoot><tr><td>f</td></tr></tfoot><tr><td>r</td></tr></table>' | tl table
   r
-  $ printf '<table><tr><td>o<table><tr><td>i</td></tr></table></td></tr></table>' | tl table --as-is
+  f
+  $ printf '<table><tr><td>o<table><tr><td>i</td></tr></table></td></tr></table>' | tl table
   o i
-  $ printf '<table><tr><td>o<table><tr><td>i</td></tr></table></td></tr></table>' | tl table --as-is --number 2
+  $ printf '<table><tr><td>o<table><tr><td>i</td></tr></table></td></tr></table>' | tl table --number 2
   i
-  $ printf '<table></table><table><tr><td>z</td></tr></table>' | tl table --as-is
-  $ printf '<table></table><table><tr><td>z</td></tr></table>' | tl table --as-is --number 2
+  $ printf '<table></table><table><tr><td>z</td></tr></table>' | tl table
+  $ printf '<table></table><table><tr><td>z</td></tr></table>' | tl table --number 2
   z
-  $ printf '<TABLE><TR><TD colspan="2">a<br>b</TD></TR></TABLE>' | tl table --as-is
-  a b
-  $ printf '<table><tr>x<b>y</b><td>z</td></tr><p><tr><td>w</td></tr></p></table>' | tl table --as-is
+  $ printf '<TABLE><TR><TD colspan="2">a<br>b</TD></TR></TABLE>' | tl table
+  a b,a b
+  $ printf '<table><tr>x<b>y</b><td>z</td></tr><p><tr><td>w</td></tr></p></table>' | tl table
   z
+  w
   $ printf '<table><tr><td>a&amp;b<script>c</script></td></tr></table>' | tl table
   a&b
-  $ printf '<table><tbody><tbody><tr><td>n</td></tr></tbody></tbody></table>' | tl table --as-is
+  $ printf '<table><tbody><tbody><tr><td>n</td></tr></tbody></tbody></table>' | tl table
+  n
 
 There is no such table.
 
-  $ printf '' | tl table --as-is
+  $ printf '' | tl table
   [1]
-  $ printf '<table></table>' | tl table --as-is --number 2
+  $ printf '<table></table>' | tl table --number 2
   [1]
-  $ printf '<tr><td>x</td></tr>' | tl table --as-is
+  $ printf '<tr><td>x</td></tr>' | tl table
   [1]
 
 Links, in the order of nodes and keys.
 
-  $ printf '' | tl links --as-is
+  $ printf '' | tl links
   [1]
-  $ printf '<p>a</p>' | tl links --as-is
+  $ printf '<p>a</p>' | tl links
   [1]
-  $ printf '<a href>x</a><a href="">y</a>' | tl links --as-is
+  $ printf '<a href>x</a><a href="">y</a>' | tl links
   (empty)
-  $ printf '<img srcset="c" src="b"><a href="d"></a>' | tl links --as-is
-  b
+  (empty)
+  $ printf '<img srcset="c" src="b"><a href="d"></a>' | tl links
   c
+  b
   d
-  $ printf '<video poster="p"></video><form action="f"></form>' | tl links --as-is
+  $ printf '<video poster="p"></video><form action="f"></form>' | tl links
   p
   f
 
-Values and texts as they stand, and as what they say.
+Values and texts, by what they say.
 
-  $ printf '<a k="&lt;b&gt; &amp;amp;">&lt;c&gt;</a>' | tl select --as-is -a k a
-  &lt;b&gt; &amp;amp;
   $ printf '<a k="&lt;b&gt; &amp;amp;">&lt;c&gt;</a>' | tl select -a k a
   <b> &amp;
-  $ printf '<a k="&lt;b&gt; &amp;amp;">&lt;c&gt;</a>' | tl select --as-is -t a
-  &lt;c&gt;
   $ printf '<a k="&lt;b&gt; &amp;amp;">&lt;c&gt;</a>' | tl select -t a
   <c>
   $ printf '<a k="?a&lt=b">x&lt=y</a>' | tl select -a k a
@@ -192,7 +241,10 @@ Values and texts as they stand, and as what they say.
   x<=y
   $ printf '<a>&#233;<b>&eacute;</b></a>' | tl select -t a
   éé
-  $ printf '<x+2ey href="/?a&amp;b">a &lt; b</x+2ey><!--&amp;-->' | tl outline --as-is
-  x\+2ey[href="/?a&amp;b"]
-    "a &lt; b"
-  <!--&amp;-->
+  $ printf '<x+2ey href="/?a&amp;b">a &lt; b</x+2ey><!--&amp;-->' | tl outline
+  html
+    head
+    body
+      x\+2ey[href="/?a&b"]
+        "a < b"
+      <!-- &amp; -->

@@ -1,537 +1,553 @@
-What `tl sanitize` prints of pages that attack a browser, and of others, read by the grammar of `tl`; `./x compare browser` hands
-these pages to Chromium too. Then lists that are no policy.
+What `tl sanitize` prints of pages that attack a browser, and of others; `./x compare browser` hands these pages to Chromium too. Then
+lists that are no policy.
 
 What stands in these is no markup, in any case of their names.
 
-  $ printf '<script>steal()</script>x' | tl sanitize --as-is
+  $ printf '<script>steal()</script>x' | tl sanitize
   x (no-eol)
-  $ printf '<IMG SRC=x ONERROR="steal()"><SCRIPT>steal()</SCRIPT>' | tl sanitize --as-is
-  $ printf '<ScRiPt>steal()</sCrIpT>x' | tl sanitize --as-is
-  $ printf '<STYLE>p{}</STYLE><TITLE>t</TITLE><a>x</a>' | tl sanitize --as-is
+  $ printf '<IMG SRC=x ONERROR="steal()"><SCRIPT>steal()</SCRIPT>' | tl sanitize
+  <img> (no-eol)
+  $ printf '<ScRiPt>steal()</sCrIpT>x' | tl sanitize
+  x (no-eol)
+  $ printf '<STYLE>p{}</STYLE><TITLE>t</TITLE><a>x</a>' | tl sanitize
   <a>x</a> (no-eol)
-  $ printf '<plaintext><p title="x">a</p>' | tl sanitize --as-is
-  $ printf '<b><title>x</b><img src=x onerror="steal()"></title>y' | tl sanitize --as-is
+  $ printf '<plaintext><p title="x">a</p>' | tl sanitize
+  $ printf '<b><title>x</b><img src=x onerror="steal()"></title>y' | tl sanitize
   <b>y</b> (no-eol)
-  $ printf '<p><style>x</p></style><img src=x onerror="steal()">' | tl sanitize --as-is
+  $ printf '<p><style>x</p></style><img src=x onerror="steal()">' | tl sanitize
   <p><img></p> (no-eol)
-  $ printf '<script>"<p>"</script><p>x</p>' | tl sanitize --as-is
-  $ printf '<textarea><script>steal()</textarea></script>x' | tl sanitize --as-is
+  $ printf '<script>"<p>"</script><p>x</p>' | tl sanitize
+  <p>x</p> (no-eol)
+  $ printf '<textarea><script>steal()</textarea></script>x' | tl sanitize
+  x (no-eol)
 
 The end of what is no markup stands in a value.
 
-  $ printf '<style><a title="</style><img src=x onerror=1>">x</a></style>' | tl sanitize --as-is
-  $ printf '<title><p title="</title><img src=x onerror=\047steal()\047>">x</p></title>' | tl sanitize --as-is
-  $ printf '<textarea><p title="</textarea><img src=x onerror=\047steal()\047>">x</p></textarea>' | tl sanitize --as-is
-  $ printf '<noscript><p title="</noscript><img src=x onerror=\047steal()\047>">x</p></noscript>' | tl sanitize --as-is
-  $ printf '<xmp><p title="</xmp><img src=x onerror=\047steal()\047>">x</p></xmp>' | tl sanitize --as-is
-  $ printf '<iframe><p title="</iframe><img src=x onerror=\047steal()\047>">x</p></iframe>' | tl sanitize --as-is
-  $ printf '<noembed><p title="</noembed><img src=x onerror=\047steal()\047>">x</p></noembed>' | tl sanitize --as-is
-  $ printf '<noframes><p title="</noframes><img src=x onerror=\047steal()\047>">x</p></noframes>' | tl sanitize --as-is
+  $ printf '<style><a title="</style><img src=x onerror=1>">x</a></style>' | tl sanitize
+  <img>">x (no-eol)
+  $ printf '<title><p title="</title><img src=x onerror=\047steal()\047>">x</p></title>' | tl sanitize
+  <img>">x<p></p> (no-eol)
+  $ printf '<textarea><p title="</textarea><img src=x onerror=\047steal()\047>">x</p></textarea>' | tl sanitize
+  <img>">x<p></p> (no-eol)
+  $ printf '<noscript><p title="</noscript><img src=x onerror=\047steal()\047>">x</p></noscript>' | tl sanitize
+  $ printf '<xmp><p title="</xmp><img src=x onerror=\047steal()\047>">x</p></xmp>' | tl sanitize
+  <img>">x<p></p> (no-eol)
+  $ printf '<iframe><p title="</iframe><img src=x onerror=\047steal()\047>">x</p></iframe>' | tl sanitize
+  <img>">x<p></p> (no-eol)
+  $ printf '<noembed><p title="</noembed><img src=x onerror=\047steal()\047>">x</p></noembed>' | tl sanitize
+  <img>">x<p></p> (no-eol)
+  $ printf '<noframes><p title="</noframes><img src=x onerror=\047steal()\047>">x</p></noframes>' | tl sanitize
+  <img>">x<p></p> (no-eol)
 
 Elements of other languages.
 
-  $ printf '<SvG><p>a</p></SvG>b' | tl sanitize --as-is
+  $ printf '<SvG><p>a</p></SvG>b' | tl sanitize
   b (no-eol)
-  $ printf '<sVg><a href="/x">y</a></sVg>z' | tl sanitize --as-is
+  $ printf '<sVg><a href="/x">y</a></sVg>z' | tl sanitize
   z (no-eol)
-  $ printf '<svg onload="steal()"></svg>x' | tl sanitize --as-is
+  $ printf '<svg onload="steal()"></svg>x' | tl sanitize
   x (no-eol)
-  $ printf '<svg/onload=steal()>x' | tl sanitize --as-is
-  onload=steal()>x (no-eol)
-  $ printf '<svg><style><a title="</style><img src=x onerror=\047steal()\047>">x</a></style></svg>y' | tl sanitize --as-is
+  $ printf '<svg/onload=steal()>x' | tl sanitize
+  $ printf '<svg><style><a title="</style><img src=x onerror=\047steal()\047>">x</a></style></svg>y' | tl sanitize
   y (no-eol)
-  $ printf '<svg></p><style><a id="</style><img src=1 onerror=\047steal()\047>">' | tl sanitize --as-is
-  $ printf '<math><mtext><mglyph><style><a title="</style><img src=x onerror=\047steal()\047>">x</a></style></mglyph></mtext></math>y' | tl sanitize --as-is
+  $ printf '<svg></p><style><a id="</style><img src=1 onerror=\047steal()\047>">' | tl sanitize
+  $ printf '<math><mtext><mglyph><style><a title="</style><img src=x onerror=\047steal()\047>">x</a></style></mglyph></mtext></math>y' | tl sanitize
   y (no-eol)
-  $ printf '<math><annotation-xml encoding="text/html"><style><img title="</style><img src=x onerror=\047steal()\047>"></style></annotation-xml></math>' | tl sanitize --as-is
-  $ printf '<math><mtext><table><mglyph><style><!--</style><img title="--&gt;&lt;img src=1 onerror=steal()&gt;">' | tl sanitize --as-is
-  $ printf '<svg><title><p title="</title><img src=x onerror=\047steal()\047>">x</p></title></svg>y' | tl sanitize --as-is
+  $ printf '<math><annotation-xml encoding="text/html"><style><img title="</style><img src=x onerror=\047steal()\047>"></style></annotation-xml></math>' | tl sanitize
+  $ printf '<math><mtext><table><mglyph><style><!--</style><img title="--&gt;&lt;img src=1 onerror=steal()&gt;">' | tl sanitize
+  $ printf '<svg><title><p title="</title><img src=x onerror=\047steal()\047>">x</p></title></svg>y' | tl sanitize
   y (no-eol)
-  $ printf '<svg><desc><style><p title="</style><img src=x onerror=\047steal()\047>">x</p></style></desc></svg>y' | tl sanitize --as-is
+  $ printf '<svg><desc><style><p title="</style><img src=x onerror=\047steal()\047>">x</p></style></desc></svg>y' | tl sanitize
   y (no-eol)
-  $ printf '<svg><![CDATA[<p title="]]><img src=x onerror=\047steal()\047>">x</p>]]></svg>y' | tl sanitize --as-is
+  $ printf '<svg><![CDATA[<p title="]]><img src=x onerror=\047steal()\047>">x</p>]]></svg>y' | tl sanitize
   y (no-eol)
-  $ printf '<desc><p>x</p></desc>' | tl sanitize --as-is
+  $ printf '<desc><p>x</p></desc>' | tl sanitize
   <p>x</p> (no-eol)
-  $ printf '<mglyph><b>x</b></mglyph>' | tl sanitize --as-is
+  $ printf '<mglyph><b>x</b></mglyph>' | tl sanitize
   <b>x</b> (no-eol)
 
 Tags that change what is around them, or load a document.
 
-  $ printf '<table><tr><td>x</td></tr></table>' | tl sanitize --as-is
+  $ printf '<table><tr><td>x</td></tr></table>' | tl sanitize
   x (no-eol)
-  $ printf '<template><img src=x onerror="steal()"></template>y' | tl sanitize --as-is
+  $ printf '<template><img src=x onerror="steal()"></template>y' | tl sanitize
   <img>y (no-eol)
-  $ printf '<select><style><p title="</style></select><img src=x onerror=\047steal()\047>">x</p></style></select>y' | tl sanitize --as-is
-  y (no-eol)
-  $ printf '<table><p>x<tr><td>y</td></tr></table>' | tl sanitize --as-is
-  <p>xy</p> (no-eol)
-  $ printf '<form><button formaction="javascript:steal()">x</button></form>' | tl sanitize --as-is
+  $ printf '<select><style><p title="</style></select><img src=x onerror=\047steal()\047>">x</p></style></select>y' | tl sanitize
+  <img>">x<p></p>y (no-eol)
+  $ printf '<table><p>x<tr><td>y</td></tr></table>' | tl sanitize
+  <p>x</p>y (no-eol)
+  $ printf '<form><button formaction="javascript:steal()">x</button></form>' | tl sanitize
   x (no-eol)
-  $ printf '<base href="javascript:steal()//"><a href="/x">c</a>' | tl sanitize --as-is
+  $ printf '<base href="javascript:steal()//"><a href="/x">c</a>' | tl sanitize
   <a href="/x">c</a> (no-eol)
-  $ printf '<meta http-equiv="refresh" content="0;url=javascript:steal()">x' | tl sanitize --as-is
+  $ printf '<meta http-equiv="refresh" content="0;url=javascript:steal()">x' | tl sanitize
   x (no-eol)
-  $ printf '<object data="javascript:steal()">x</object>' | tl sanitize --as-is
+  $ printf '<object data="javascript:steal()">x</object>' | tl sanitize
   x (no-eol)
-  $ printf '<embed src="javascript:steal()">x' | tl sanitize --as-is
+  $ printf '<embed src="javascript:steal()">x' | tl sanitize
   x (no-eol)
-  $ printf '<iframe srcdoc="<script>steal()</script>"></iframe>x' | tl sanitize --as-is
+  $ printf '<iframe srcdoc="<script>steal()</script>"></iframe>x' | tl sanitize
   x (no-eol)
-  $ printf '<html><head><link rel="import" href="/x"></head><body onload="steal()">x</body></html>' | tl sanitize --as-is
+  $ printf '<html><head><link rel="import" href="/x"></head><body onload="steal()">x</body></html>' | tl sanitize
   x (no-eol)
-  $ printf '<frameset onload="steal()"><frame src="javascript:steal()"></frameset>x' | tl sanitize --as-is
+  $ printf '<frameset onload="steal()"><frame src="javascript:steal()"></frameset>x' | tl sanitize
   x (no-eol)
-  $ printf '<image src=x onerror="steal()">' | tl sanitize --as-is
-  $ printf '<isindex action="javascript:steal()" type="image">x' | tl sanitize --as-is
+  $ printf '<image src=x onerror="steal()">' | tl sanitize
+  $ printf '<isindex action="javascript:steal()" type="image">x' | tl sanitize
   x (no-eol)
 
 A scheme as it is, by character references, with controls, and in any case.
 
-  $ printf '<a href="javascript:steal()">c</a>' | tl sanitize --as-is
+  $ printf '<a href="javascript:steal()">c</a>' | tl sanitize
   <a>c</a> (no-eol)
-  $ printf '<a href="JaVaScRiPt:steal()">c</a>' | tl sanitize --as-is
+  $ printf '<a href="JaVaScRiPt:steal()">c</a>' | tl sanitize
   <a>c</a> (no-eol)
-  $ printf '<a href="&#106;avascript:steal()">c</a>' | tl sanitize --as-is
+  $ printf '<a href="&#106;avascript:steal()">c</a>' | tl sanitize
   <a>c</a> (no-eol)
-  $ printf '<a href="javascript&colon;steal()">c</a>' | tl sanitize --as-is
+  $ printf '<a href="javascript&colon;steal()">c</a>' | tl sanitize
   <a>c</a> (no-eol)
-  $ printf '<a href="java&Tab;script:steal()">c</a>' | tl sanitize --as-is
+  $ printf '<a href="java&Tab;script:steal()">c</a>' | tl sanitize
   <a>c</a> (no-eol)
-  $ printf '<a href="java&NewLine;script:steal()">c</a>' | tl sanitize --as-is
+  $ printf '<a href="java&NewLine;script:steal()">c</a>' | tl sanitize
   <a>c</a> (no-eol)
-  $ printf '<a href="&#x6A;avascript:steal()">c</a>' | tl sanitize --as-is
+  $ printf '<a href="&#x6A;avascript:steal()">c</a>' | tl sanitize
   <a>c</a> (no-eol)
-  $ printf '<a href="&#0000106avascript:steal()">c</a>' | tl sanitize --as-is
+  $ printf '<a href="&#0000106avascript:steal()">c</a>' | tl sanitize
   <a>c</a> (no-eol)
-  $ printf '<a href="java\tscript:steal()">c</a>' | tl sanitize --as-is
+  $ printf '<a href="java\tscript:steal()">c</a>' | tl sanitize
   <a>c</a> (no-eol)
-  $ printf '<a href=" javascript:steal()">c</a>' | tl sanitize --as-is
+  $ printf '<a href=" javascript:steal()">c</a>' | tl sanitize
   <a>c</a> (no-eol)
-  $ printf '<a href="java\nscript:steal()">c</a>' | tl sanitize --as-is
+  $ printf '<a href="java\nscript:steal()">c</a>' | tl sanitize
   <a>c</a> (no-eol)
-  $ printf '<a href="java\rscript:steal()">c</a>' | tl sanitize --as-is
+  $ printf '<a href="java\rscript:steal()">c</a>' | tl sanitize
   <a>c</a> (no-eol)
-  $ printf '<a href="\001javascript:steal()">c</a>' | tl sanitize --as-is
+  $ printf '<a href="\001javascript:steal()">c</a>' | tl sanitize
   <a>c</a> (no-eol)
-  $ printf '<a href="\177javascript:steal()">c</a>' | tl sanitize --as-is
+  $ printf '<a href="\177javascript:steal()">c</a>' | tl sanitize
   <a>c</a> (no-eol)
 
 Links.
 
-  $ printf '<a href="/x?a=1&amp;b">c</a>' | tl sanitize --as-is
+  $ printf '<a href="/x?a=1&amp;b">c</a>' | tl sanitize
   <a href="/x?a=1&amp;b">c</a> (no-eol)
-  $ printf '<a href="data:text/html,<script>steal()</script>">c</a>' | tl sanitize --as-is
+  $ printf '<a href="data:text/html,<script>steal()</script>">c</a>' | tl sanitize
   <a>c</a> (no-eol)
-  $ printf '<a href="vbscript:steal()">c</a>' | tl sanitize --as-is
+  $ printf '<a href="vbscript:steal()">c</a>' | tl sanitize
   <a>c</a> (no-eol)
-  $ printf '<a href="https:javascript:steal()">c</a>' | tl sanitize --as-is
+  $ printf '<a href="https:javascript:steal()">c</a>' | tl sanitize
   <a>c</a> (no-eol)
-  $ printf '<a href="HTTPS://e/">c</a>' | tl sanitize --as-is
+  $ printf '<a href="HTTPS://e/">c</a>' | tl sanitize
   <a>c</a> (no-eol)
-  $ printf '<a href="https://e/\té">c</a>' | tl sanitize --as-is
+  $ printf '<a href="https://e/\té">c</a>' | tl sanitize
   <a>c</a> (no-eol)
-  $ printf '<a href="https://e/é">c</a>' | tl sanitize --as-is
+  $ printf '<a href="https://e/é">c</a>' | tl sanitize
   <a>c</a> (no-eol)
-  $ printf '<a href="#<b>">c</a>' | tl sanitize --as-is
+  $ printf '<a href="#<b>">c</a>' | tl sanitize
   <a href="#&lt;b&gt;">c</a> (no-eol)
-  $ printf '<a href="#javascript:steal()">c</a>' | tl sanitize --as-is
+  $ printf '<a href="#javascript:steal()">c</a>' | tl sanitize
   <a href="#javascript:steal()">c</a> (no-eol)
-  $ printf '<img src="javascript:steal()" alt="x">' | tl sanitize --as-is
+  $ printf '<img src="javascript:steal()" alt="x">' | tl sanitize
   <img alt="x"> (no-eol)
-  $ printf '<q cite="javascript:steal()">c</q>' | tl sanitize --as-is
+  $ printf '<q cite="javascript:steal()">c</q>' | tl sanitize
   <q>c</q> (no-eol)
-  $ printf '<a href=javascript:steal()>c</a>' | tl sanitize --as-is
+  $ printf '<a href=javascript:steal()>c</a>' | tl sanitize
   <a>c</a> (no-eol)
-  $ printf '<a href=\047javascript:steal()\047>c</a>' | tl sanitize --as-is
+  $ printf '<a href=\047javascript:steal()\047>c</a>' | tl sanitize
   <a>c</a> (no-eol)
-  $ printf '<a href>c</a>' | tl sanitize --as-is
+  $ printf '<a href>c</a>' | tl sanitize
   <a>c</a> (no-eol)
-  $ printf '<a href="">c</a>' | tl sanitize --as-is
+  $ printf '<a href="">c</a>' | tl sanitize
   <a>c</a> (no-eol)
 
 Links within the site, and those that look like it and lead to another host.
 
-  $ printf '<a href="/">c</a>' | tl sanitize --as-is
+  $ printf '<a href="/">c</a>' | tl sanitize
   <a href="/">c</a> (no-eol)
-  $ printf '<a href="/x//e">c</a>' | tl sanitize --as-is
+  $ printf '<a href="/x//e">c</a>' | tl sanitize
   <a href="/x//e">c</a> (no-eol)
-  $ printf '<a href="//e/x">c</a>' | tl sanitize --as-is
+  $ printf '<a href="//e/x">c</a>' | tl sanitize
   <a>c</a> (no-eol)
-  $ printf '<a href="/\\e/x">c</a>' | tl sanitize --as-is
+  $ printf '<a href="/\\e/x">c</a>' | tl sanitize
   <a>c</a> (no-eol)
-  $ printf '<a href="/&#47;e/x">c</a>' | tl sanitize --as-is
+  $ printf '<a href="/&#47;e/x">c</a>' | tl sanitize
   <a>c</a> (no-eol)
-  $ printf '<a href="/&sol;e/x">c</a>' | tl sanitize --as-is
+  $ printf '<a href="/&sol;e/x">c</a>' | tl sanitize
   <a>c</a> (no-eol)
-  $ printf '<a href="/&Tab;/e/x">c</a>' | tl sanitize --as-is
+  $ printf '<a href="/&Tab;/e/x">c</a>' | tl sanitize
   <a>c</a> (no-eol)
-  $ printf '<a href="/<e">c</a>' | tl sanitize --as-is
+  $ printf '<a href="/<e">c</a>' | tl sanitize
   <a>c</a> (no-eol)
-  $ printf '<a href="/e<">c</a>' | tl sanitize --as-is
+  $ printf '<a href="/e<">c</a>' | tl sanitize
   <a href="/e&lt;">c</a> (no-eol)
-  $ printf '<img src alt="x">' | tl sanitize --as-is
+  $ printf '<img src alt="x">' | tl sanitize
   <img alt="x"> (no-eol)
-  $ printf '<q cite>x</q>' | tl sanitize --as-is
+  $ printf '<q cite>x</q>' | tl sanitize
   <q>x</q> (no-eol)
 
 By a policy with links to any host, by the scheme of the page.
 
-  $ printf '<a href="//e/x">c</a>' | tl sanitize --as-is --links //
+  $ printf '<a href="//e/x">c</a>' | tl sanitize --links //
   <a href="//e/x">c</a> (no-eol)
-  $ printf '<a href="///e/x">c</a>' | tl sanitize --as-is --links //
+  $ printf '<a href="///e/x">c</a>' | tl sanitize --links //
   <a href="///e/x">c</a> (no-eol)
-  $ printf '<a href="/\\e/x">c</a>' | tl sanitize --as-is --links //
+  $ printf '<a href="/\\e/x">c</a>' | tl sanitize --links //
   <a>c</a> (no-eol)
-  $ printf '<a href="/x">c</a>' | tl sanitize --as-is --links //
+  $ printf '<a href="/x">c</a>' | tl sanitize --links //
   <a>c</a> (no-eol)
 
 What may end what is no markup stands in a value.
 
-  $ printf '<p title="</noscript><img src=x onerror=steal()>">y</p>' | tl sanitize --as-is
+  $ printf '<p title="</noscript><img src=x onerror=steal()>">y</p>' | tl sanitize
   <p title="&lt;/noscript&gt;&lt;img src=x onerror=steal()&gt;">y</p> (no-eol)
-  $ printf '<p title=\047--><b>\047>y</p>' | tl sanitize --as-is
+  $ printf '<p title=\047--><b>\047>y</p>' | tl sanitize
   <p title="--&gt;&lt;b&gt;">y</p> (no-eol)
-  $ printf '<p title="&lt;&amp;lt;&gt">y</p>' | tl sanitize --as-is
-  <p title="&lt;&amp;lt;&gt">y</p> (no-eol)
-  $ printf '<p title="&lt<&#60<&<">y</p>' | tl sanitize --as-is
-  <p title="&lt&lt;&#60&lt;&&lt;">y</p> (no-eol)
-  $ printf '<p title="é<東">y</p>' | tl sanitize --as-is
+  $ printf '<p title="&lt;&amp;lt;&gt">y</p>' | tl sanitize
+  <p title="&lt;&amp;lt;&gt;">y</p> (no-eol)
+  $ printf '<p title="&lt<&#60<&<">y</p>' | tl sanitize
+  <p title="&lt;&lt;&lt;&lt;&amp;&lt;">y</p> (no-eol)
+  $ printf '<p title="é<東">y</p>' | tl sanitize
   <p title="é&lt;東">y</p> (no-eol)
-  $ printf '<p title>y</p>' | tl sanitize --as-is
-  <p title>y</p> (no-eol)
+  $ printf '<p title>y</p>' | tl sanitize
+  <p title="">y</p> (no-eol)
 
 Comments and doctypes, what a browser takes for their end, and what looks like them.
 
-  $ printf '<!--x--!><img src=x onerror="steal()">-->' | tl sanitize --as-is
-  $ printf '< !-- <img src=x onerror="steal()"> -->' | tl sanitize --as-is
-  $ printf '<!--><img src=x onerror="steal()">-->x' | tl sanitize --as-is
+  $ printf '<!--x--!><img src=x onerror="steal()">-->' | tl sanitize
+  <img>--> (no-eol)
+  $ printf '< !-- <img src=x onerror="steal()"> -->' | tl sanitize
+  &lt; !-- <img> --> (no-eol)
+  $ printf '<!--><img src=x onerror="steal()">-->x' | tl sanitize
   <img>-->x (no-eol)
-  $ printf '<!---><img src=x onerror="steal()">-->x' | tl sanitize --as-is
+  $ printf '<!---><img src=x onerror="steal()">-->x' | tl sanitize
   <img>-->x (no-eol)
-  $ printf '<\n!-- <img src=x onerror="steal()"> -->' | tl sanitize --as-is
-  $ printf '<p title="<!--">a</p><p title="--!><img src=x onerror=\047steal()\047>">b</p>' | tl sanitize --as-is
+  $ printf '<\n!-- <img src=x onerror="steal()"> -->' | tl sanitize
+  &lt;
+  !-- <img> --> (no-eol)
+  $ printf '<p title="<!--">a</p><p title="--!><img src=x onerror=\047steal()\047>">b</p>' | tl sanitize
   <p title="&lt;!--">a</p><p title="--!&gt;&lt;img src=x onerror='steal()'&gt;">b</p> (no-eol)
-  $ printf '<!x><p title="x">a</p><! <img src=x onerror="steal()">' | tl sanitize --as-is
-  ><p title="x">a</p><img> (no-eol)
-  $ printf '<?x <p>y?><img src=x onerror="steal()">' | tl sanitize --as-is
+  $ printf '<!x><p title="x">a</p><! <img src=x onerror="steal()">' | tl sanitize
+  <p title="x">a</p> (no-eol)
+  $ printf '<?x <p>y?><img src=x onerror="steal()">' | tl sanitize
   y?><img> (no-eol)
-  $ printf '<!DOCTYPE html><p>x</p>' | tl sanitize --as-is
+  $ printf '<!DOCTYPE html><p>x</p>' | tl sanitize
   <p>x</p> (no-eol)
-  $ printf '<!doctype html SYSTEM "><img src=x onerror=steal()>"><p>x</p>' | tl sanitize --as-is
-  YSTEM "><img>"><p>x</p> (no-eol)
-  $ printf '<!--x' | tl sanitize --as-is
-  $ printf '<![CDATA[<p>x</p>]]>' | tl sanitize --as-is
-  [CDATA[<p>x</p>]]> (no-eol)
-  $ printf '&lt;!--<b>x</b>--&gt;' | tl sanitize --as-is
-  &lt;!--<b>x</b>--&gt; (no-eol)
-  $ printf '<!--' | tl sanitize --as-is
+  $ printf '<!doctype html SYSTEM "><img src=x onerror=steal()>"><p>x</p>' | tl sanitize
+  <img>"><p>x</p> (no-eol)
+  $ printf '<!--x' | tl sanitize
+  $ printf '<![CDATA[<p>x</p>]]>' | tl sanitize
+  x<p></p>]]> (no-eol)
+  $ printf '&lt;!--<b>x</b>--&gt;' | tl sanitize
+  &lt;!--<b>x</b>--> (no-eol)
+  $ printf '<!--' | tl sanitize
 
 Quotes, and what stands between them.
 
-  $ printf '<p title=\047"><img src=x onerror=steal()>\047>x</p>' | tl sanitize --as-is
-  <p>x</p> (no-eol)
-  $ printf '<p>a</p title="><img src=x>">' | tl sanitize --as-is
-  <p>a<img>"></p> (no-eol)
-  $ printf '<p title="x><img src=x onerror=\047steal()\047>' | tl sanitize --as-is
-  $ printf '<p title=\047"onmouseover="steal()\047>x</p>' | tl sanitize --as-is
-  <p>x</p> (no-eol)
-  $ printf '<p title=`"><img src=x onerror=steal()>`>x</p>' | tl sanitize --as-is
-  <p><img>`>x</p> (no-eol)
-  $ printf '<p title="a\047b">x</p>' | tl sanitize --as-is
+  $ printf '<p title=\047"><img src=x onerror=steal()>\047>x</p>' | tl sanitize
+  <p title="&quot;&gt;&lt;img src=x onerror=steal()&gt;">x</p> (no-eol)
+  $ printf '<p>a</p title="><img src=x>">' | tl sanitize
+  <p>a</p> (no-eol)
+  $ printf '<p title="x><img src=x onerror=\047steal()\047>' | tl sanitize
+  $ printf '<p title=\047"onmouseover="steal()\047>x</p>' | tl sanitize
+  <p title="&quot;onmouseover=&quot;steal()">x</p> (no-eol)
+  $ printf '<p title=`"><img src=x onerror=steal()>`>x</p>' | tl sanitize
+  <p title="`&quot;"><img>`>x</p> (no-eol)
+  $ printf '<p title="a\047b">x</p>' | tl sanitize
   <p title="a'b">x</p> (no-eol)
-  $ printf '<p title=a"b>x</p>' | tl sanitize --as-is
-  <p>x</p> (no-eol)
-  $ printf '<img src=/ onerror="steal()" a="<p title=\047">z' | tl sanitize --as-is
-   onerror="steal()" a=" (no-eol)
-  $ printf '<a href="/1"><a href="/2" title="</a><img src=x onerror=\047steal()\047>">x</a></a>' | tl sanitize --as-is
-  <a href="/1">x</a> (no-eol)
+  $ printf '<p title=a"b>x</p>' | tl sanitize
+  <p title="a&quot;b">x</p> (no-eol)
+  $ printf '<img src=/ onerror="steal()" a="<p title=\047">z' | tl sanitize
+  <img src="/">z (no-eol)
+  $ printf '<a href="/1"><a href="/2" title="</a><img src=x onerror=\047steal()\047>">x</a></a>' | tl sanitize
+  <a href="/1"></a><a href="/2" title="&lt;/a&gt;&lt;img src=x onerror='steal()'&gt;">x</a> (no-eol)
 
 How tags begin and end, and stand in one another.
 
-  $ printf '<p<img src=x onerror="steal()">x</p>' | tl sanitize --as-is
-  <p>x</p> (no-eol)
-  $ printf 'a<b>c<br>d' | tl sanitize --as-is
+  $ printf '<p<img src=x onerror="steal()">x</p>' | tl sanitize
+  x<p></p> (no-eol)
+  $ printf 'a<b>c<br>d' | tl sanitize
   a<b>c<br>d</b> (no-eol)
-  $ printf '<p>x<img src=x onerror="steal()">' | tl sanitize --as-is
+  $ printf '<p>x<img src=x onerror="steal()">' | tl sanitize
   <p>x<img></p> (no-eol)
-  $ printf '<img/src=x/onerror=steal()>' | tl sanitize --as-is
-  src=x/onerror=steal()> (no-eol)
-  $ printf '</ <img src=x onerror="steal()">x' | tl sanitize --as-is
+  $ printf '<img/src=x/onerror=steal()>' | tl sanitize
+  <img> (no-eol)
+  $ printf '</ <img src=x onerror="steal()">x' | tl sanitize
   x (no-eol)
-  $ printf '< img src=x onerror="steal()">x' | tl sanitize --as-is
+  $ printf '< img src=x onerror="steal()">x' | tl sanitize
+  &lt; img src=x onerror="steal()">x (no-eol)
+  $ printf '<<img src=x onerror="steal()">x' | tl sanitize
+  &lt;<img>x (no-eol)
+  $ printf '<img\tsrc=x\tonerror=steal()>x' | tl sanitize
   <img>x (no-eol)
-  $ printf '<<img src=x onerror="steal()">x' | tl sanitize --as-is
-  x (no-eol)
-  $ printf '<img\tsrc=x\tonerror=steal()>x' | tl sanitize --as-is
+  $ printf '<img\014src=x\014onerror=steal()>x' | tl sanitize
   <img>x (no-eol)
-  $ printf '<img\014src=x\014onerror=steal()>x' | tl sanitize --as-is
-  <img>x (no-eol)
-  $ printf '<scr<script>ipt>steal()</script>x' | tl sanitize --as-is
+  $ printf '<scr<script>ipt>steal()</script>x' | tl sanitize
   ipt>steal()x (no-eol)
-  $ printf '<a href="/x" / onclick="steal()">c</a>' | tl sanitize --as-is
-   onclick="steal()">c (no-eol)
-  $ printf '<b>a<i>b</b>c</i>' | tl sanitize --as-is
-  <b>a<i>bc</i></b> (no-eol)
-  $ printf 'x<y>z' | tl sanitize --as-is
+  $ printf '<a href="/x" / onclick="steal()">c</a>' | tl sanitize
+  <a href="/x">c</a> (no-eol)
+  $ printf '<b>a<i>b</b>c</i>' | tl sanitize
+  <b>a<i>b</i></b>c (no-eol)
+  $ printf 'x<y>z' | tl sanitize
   xz (no-eol)
-  $ printf 'a < b > c' | tl sanitize --as-is
-  a <b> c</b> (no-eol)
-  $ printf '</p>' | tl sanitize --as-is
+  $ printf 'a < b > c' | tl sanitize
+  a &lt; b > c (no-eol)
+  $ printf '</p>' | tl sanitize
+  <p></p> (no-eol)
 
 Keys, in exact case, and twice in a tag.
 
-  $ printf '<img src="https://e/x" alt="y" onerror="z">' | tl sanitize --as-is
+  $ printf '<img src="https://e/x" alt="y" onerror="z">' | tl sanitize
   <img src="https://e/x" alt="y"> (no-eol)
-  $ printf '<P CLASS="user-x">x</P>' | tl sanitize --as-is
-  x (no-eol)
-  $ printf '<img src="/x" onerror = "steal()">' | tl sanitize --as-is
+  $ printf '<P CLASS="user-x">x</P>' | tl sanitize
+  <p class="user-x">x</p> (no-eol)
+  $ printf '<img src="/x" onerror = "steal()">' | tl sanitize
   <img src="/x"> (no-eol)
-  $ printf '<p onclick="steal()" title="x">y</p>' | tl sanitize --as-is
+  $ printf '<p onclick="steal()" title="x">y</p>' | tl sanitize
   <p title="x">y</p> (no-eol)
-  $ printf '<p ONCLICK="steal()" TITLE="x">y</p>' | tl sanitize --as-is
+  $ printf '<p ONCLICK="steal()" TITLE="x">y</p>' | tl sanitize
+  <p title="x">y</p> (no-eol)
+  $ printf '<p style="background:url(javascript:steal())">y</p>' | tl sanitize
   <p>y</p> (no-eol)
-  $ printf '<p style="background:url(javascript:steal())">y</p>' | tl sanitize --as-is
-  <p>y</p> (no-eol)
-  $ printf '<p title="a" title="b">y</p>' | tl sanitize --as-is
-  <p title="b">y</p> (no-eol)
-  $ printf '<a href="javascript:steal()" href="/x">c</a>' | tl sanitize --as-is
-  <a href="/x">c</a> (no-eol)
-  $ printf '<a href="/x" href="javascript:steal()">c</a>' | tl sanitize --as-is
+  $ printf '<p title="a" title="b">y</p>' | tl sanitize
+  <p title="a">y</p> (no-eol)
+  $ printf '<a href="javascript:steal()" href="/x">c</a>' | tl sanitize
   <a>c</a> (no-eol)
-  $ printf '<p data-x="y" is="z" srcset="/x" xlink:href="javascript:steal()">y</p>' | tl sanitize --as-is
+  $ printf '<a href="/x" href="javascript:steal()">c</a>' | tl sanitize
+  <a href="/x">c</a> (no-eol)
+  $ printf '<p data-x="y" is="z" srcset="/x" xlink:href="javascript:steal()">y</p>' | tl sanitize
   <p>y</p> (no-eol)
-  $ printf '<img src="/x" width="1" height="2" alt="a" lowsrc="javascript:steal()">' | tl sanitize --as-is
+  $ printf '<img src="/x" width="1" height="2" alt="a" lowsrc="javascript:steal()">' | tl sanitize
   <img src="/x" width="1" height="2" alt="a"> (no-eol)
 
 Names that others can refer to.
 
-  $ printf '<p id="body" class="user-x">x</p>' | tl sanitize --as-is
+  $ printf '<p id="body" class="user-x">x</p>' | tl sanitize
   <p class="user-x">x</p> (no-eol)
-  $ printf '<p class="user-x admin">x</p>' | tl sanitize --as-is
+  $ printf '<p class="user-x admin">x</p>' | tl sanitize
   <p>x</p> (no-eol)
-  $ printf '<p id="user-x" id="body">y</p>' | tl sanitize --as-is
+  $ printf '<p id="user-x" id="body">y</p>' | tl sanitize
+  <p id="user-x">y</p> (no-eol)
+  $ printf '<p id="user-x y">y</p>' | tl sanitize
   <p>y</p> (no-eol)
-  $ printf '<p id="user-x y">y</p>' | tl sanitize --as-is
-  <p>y</p> (no-eol)
-  $ printf '<img name="body" src="/x">' | tl sanitize --as-is
+  $ printf '<img name="body" src="/x">' | tl sanitize
   <img src="/x"> (no-eol)
-  $ printf '<p id>y</p>' | tl sanitize --as-is
+  $ printf '<p id>y</p>' | tl sanitize
   <p>y</p> (no-eol)
-  $ printf '<p class="">y</p>' | tl sanitize --as-is
+  $ printf '<p class="">y</p>' | tl sanitize
   <p>y</p> (no-eol)
 
 Another character set, byte 0, and characters beyond ASCII.
 
-  $ printf 'x\033$By\000z' | tl sanitize --as-is
+  $ printf 'x\033$By\000z' | tl sanitize
   x$Byz (no-eol)
-  $ printf '<p\000 title="x">y</p>' | tl sanitize --as-is
-  <p title="x">y</p> (no-eol)
-  $ printf '<scr\000ipt>steal()</scr\000ipt>x' | tl sanitize --as-is
+  $ printf '<p\000 title="x">y</p>' | tl sanitize
+  y<p></p> (no-eol)
+  $ printf '<scr\000ipt>steal()</scr\000ipt>x' | tl sanitize
   steal()x (no-eol)
-  $ printf '<img src="/x" alt="\033$@">ab \033(B<b title=" onerror=steal() ">c</b>' | tl sanitize --as-is
+  $ printf '<img src="/x" alt="\033$@">ab \033(B<b title=" onerror=steal() ">c</b>' | tl sanitize
   <img src="/x">ab (B<b title=" onerror=steal() ">c</b> (no-eol)
-  $ printf '<p title="\033$B">a</p>\033(B<p title=" onerror=steal() ">b</p>' | tl sanitize --as-is
+  $ printf '<p title="\033$B">a</p>\033(B<p title=" onerror=steal() ">b</p>' | tl sanitize
   <p>a</p>(B<p title=" onerror=steal() ">b</p> (no-eol)
-  $ printf 'a\000b' | tl sanitize --as-is
+  $ printf 'a\000b' | tl sanitize
   ab (no-eol)
-  $ printf '<p title="a\000b">c</p>' | tl sanitize --as-is
-  <p>c</p> (no-eol)
-  $ printf '\000<\000p\000>x' | tl sanitize --as-is
-  x (no-eol)
-  $ printf 'é\342\200\250東' | tl sanitize --as-is
+  $ printf '<p title="a\000b">c</p>' | tl sanitize
+  <p title="a�b">c</p> (no-eol)
+  $ printf '\000<\000p\000>x' | tl sanitize
+  &lt;p>x (no-eol)
+  $ printf 'é\342\200\250東' | tl sanitize
   é\u{2028}東 (esc) (no-eol)
 
 Texts that are no tags.
 
-  $ printf '<p title="{{steal()}}">{{steal()}}</p>' | tl sanitize --as-is
+  $ printf '<p title="{{steal()}}">{{steal()}}</p>' | tl sanitize
   <p title="{{steal()}}">{{steal()}}</p> (no-eol)
-  $ printf '&lt;img src=x onerror=steal()&gt;' | tl sanitize --as-is
-  &lt;img src=x onerror=steal()&gt; (no-eol)
-  $ printf '<p>&lt;script&gt;steal()&lt;/script&gt;</p>' | tl sanitize --as-is
-  <p>&lt;script&gt;steal()&lt;/script&gt;</p> (no-eol)
-  $ printf 'a>b"c\047d&e' | tl sanitize --as-is
-  a>b"c'd&e (no-eol)
-  $ printf '<' | tl sanitize --as-is
-  $ printf '' | tl sanitize --as-is
+  $ printf '&lt;img src=x onerror=steal()&gt;' | tl sanitize
+  &lt;img src=x onerror=steal()> (no-eol)
+  $ printf '<p>&lt;script&gt;steal()&lt;/script&gt;</p>' | tl sanitize
+  <p>&lt;script>steal()&lt;/script></p> (no-eol)
+  $ printf 'a>b"c\047d&e' | tl sanitize
+  a>b"c'd&amp;e (no-eol)
+  $ printf '<' | tl sanitize
+  &lt; (no-eol)
+  $ printf '' | tl sanitize
 
 By a policy for tables and videos.
 
   $ echo '--tags table,tr,td,video --keys data-x,src,id --link-keys src --links ftp:,./ --prefix v' >videos
-  $ printf '<table><tr><td>x</td></tr></table>' | tl sanitize --as-is $(cat videos)
+  $ printf '<table><tr><td>x</td></tr></table>' | tl sanitize $(cat videos)
   <table></table> (no-eol)
-  $ printf '<p>x</p>' | tl sanitize --as-is $(cat videos)
+  $ printf '<p>x</p>' | tl sanitize $(cat videos)
   x (no-eol)
-  $ printf '<video src="javascript:steal()" data-x="javascript:steal()">x</video>' | tl sanitize --as-is $(cat videos)
+  $ printf '<video src="javascript:steal()" data-x="javascript:steal()">x</video>' | tl sanitize $(cat videos)
   <video data-x="javascript:steal()">x</video> (no-eol)
-  $ printf '<video src="ftp://e/x">x</video>' | tl sanitize --as-is $(cat videos)
+  $ printf '<video src="ftp://e/x">x</video>' | tl sanitize $(cat videos)
   <video src="ftp://e/x">x</video> (no-eol)
-  $ printf '<video src="./x" SRC="./y">x</video>' | tl sanitize --as-is $(cat videos)
+  $ printf '<video src="./x" SRC="./y">x</video>' | tl sanitize $(cat videos)
   <video src="./x">x</video> (no-eol)
-  $ printf '<video src="../x">x</video>' | tl sanitize --as-is $(cat videos)
+  $ printf '<video src="../x">x</video>' | tl sanitize $(cat videos)
   <video>x</video> (no-eol)
-  $ printf '<video id="v1">x</video><video id="1">y</video>' | tl sanitize --as-is $(cat videos)
+  $ printf '<video id="v1">x</video><video id="1">y</video>' | tl sanitize $(cat videos)
   <video id="v1">x</video><video>y</video> (no-eol)
-  $ printf '<video class="v1">x</video>' | tl sanitize --as-is $(cat videos)
+  $ printf '<video class="v1">x</video>' | tl sanitize $(cat videos)
   <video>x</video> (no-eol)
-  $ printf '<table> <script>steal()</script><TR><td>x' | tl sanitize --as-is $(cat videos)
+  $ printf '<table> <script>steal()</script><TR><td>x' | tl sanitize $(cat videos)
   <table> </table> (no-eol)
 
 Links beside the page, by the policy for documents; that for a blog drops them.
 
-  $ printf '<img src=x.png>' | tl sanitize --as-is --documents
+  $ printf '<img src=x.png>' | tl sanitize --documents
   <img src="x.png"> (no-eol)
-  $ printf '<img src="a/b.png?c=d&amp;e#f">' | tl sanitize --as-is --documents
+  $ printf '<img src="a/b.png?c=d&amp;e#f">' | tl sanitize --documents
   <img src="a/b.png?c=d&amp;e#f"> (no-eol)
-  $ printf '<a href="?q=a:b">x</a>' | tl sanitize --as-is --documents
+  $ printf '<a href="?q=a:b">x</a>' | tl sanitize --documents
   <a href="?q=a:b">x</a> (no-eol)
-  $ printf '<a href="x/y:z">w</a>' | tl sanitize --as-is --documents
+  $ printf '<a href="x/y:z">w</a>' | tl sanitize --documents
   <a href="x/y:z">w</a> (no-eol)
-  $ printf '<a href="x/<y>">z</a>' | tl sanitize --as-is --documents
+  $ printf '<a href="x/<y>">z</a>' | tl sanitize --documents
   <a href="x/&lt;y&gt;">z</a> (no-eol)
-  $ printf '<a href="x:y">z</a>' | tl sanitize --as-is --documents
+  $ printf '<a href="x:y">z</a>' | tl sanitize --documents
   <a>z</a> (no-eol)
-  $ printf '<a href="javascript:x()">z</a>' | tl sanitize --as-is --documents
+  $ printf '<a href="javascript:x()">z</a>' | tl sanitize --documents
   <a>z</a> (no-eol)
-  $ printf '<a href="javascript&colon;x()">z</a>' | tl sanitize --as-is --documents
+  $ printf '<a href="javascript&colon;x()">z</a>' | tl sanitize --documents
   <a>z</a> (no-eol)
-  $ printf '<a href="java&Tab;script:x()">z</a>' | tl sanitize --as-is --documents
+  $ printf '<a href="java&Tab;script:x()">z</a>' | tl sanitize --documents
   <a>z</a> (no-eol)
-  $ printf '<a href="//host/x">y</a>' | tl sanitize --as-is --documents
+  $ printf '<a href="//host/x">y</a>' | tl sanitize --documents
   <a>y</a> (no-eol)
-  $ printf '<a href="/\\host">y</a>' | tl sanitize --as-is --documents
+  $ printf '<a href="/\\host">y</a>' | tl sanitize --documents
   <a>y</a> (no-eol)
-  $ printf '<a href="\\\\host/x">y</a>' | tl sanitize --as-is --documents
+  $ printf '<a href="\\\\host/x">y</a>' | tl sanitize --documents
   <a>y</a> (no-eol)
-  $ printf '<a href="/&Tab;/host">y</a>' | tl sanitize --as-is --documents
+  $ printf '<a href="/&Tab;/host">y</a>' | tl sanitize --documents
   <a>y</a> (no-eol)
-  $ printf '<a href="">y</a>' | tl sanitize --as-is --documents
+  $ printf '<a href="">y</a>' | tl sanitize --documents
   <a>y</a> (no-eol)
-  $ printf '<a href=" x">y</a>' | tl sanitize --as-is --documents
+  $ printf '<a href=" x">y</a>' | tl sanitize --documents
   <a>y</a> (no-eol)
-  $ printf '<img src=x.png>' | tl sanitize --as-is
+  $ printf '<img src=x.png>' | tl sanitize
   <img> (no-eol)
 
 Links that are marked.
 
   $ echo '--tags a,area,img,q --keys alt,cite,class,href,id,rel,src,title --nofollow-links' >marked
-  $ printf '<a href="https://e/x">y</a>' | tl sanitize --as-is $(cat marked)
+  $ printf '<a href="https://e/x">y</a>' | tl sanitize $(cat marked)
   <a rel="nofollow noopener" href="https://e/x">y</a> (no-eol)
-  $ printf '<a title=z href="https://e/x" class=user-y id=user-z>y</a>' | tl sanitize --as-is $(cat marked)
+  $ printf '<a title=z href="https://e/x" class=user-y id=user-z>y</a>' | tl sanitize $(cat marked)
   <a rel="nofollow noopener" title="z" href="https://e/x" id="user-z" class="user-y">y</a> (no-eol)
-  $ printf '<a rel="follow" href="/x">y</a>' | tl sanitize --as-is $(cat marked)
+  $ printf '<a rel="follow" href="/x">y</a>' | tl sanitize $(cat marked)
   <a rel="nofollow noopener" href="/x">y</a> (no-eol)
-  $ printf '<a href="/x" rel>y</a>' | tl sanitize --as-is $(cat marked)
+  $ printf '<a href="/x" rel>y</a>' | tl sanitize $(cat marked)
   <a rel="nofollow noopener" href="/x">y</a> (no-eol)
-  $ printf '<a rel="x" href="/x" rel="y">y</a>' | tl sanitize --as-is $(cat marked)
+  $ printf '<a rel="x" href="/x" rel="y">y</a>' | tl sanitize $(cat marked)
   <a rel="nofollow noopener" href="/x">y</a> (no-eol)
-  $ printf '<a href="#x">y</a>' | tl sanitize --as-is $(cat marked)
+  $ printf '<a href="#x">y</a>' | tl sanitize $(cat marked)
   <a rel="nofollow noopener" href="#x">y</a> (no-eol)
-  $ printf '<a href="javascript:x()" rel="x">y</a>' | tl sanitize --as-is $(cat marked)
+  $ printf '<a href="javascript:x()" rel="x">y</a>' | tl sanitize $(cat marked)
   <a rel="x">y</a> (no-eol)
-  $ printf '<a href rel=x>y</a>' | tl sanitize --as-is $(cat marked)
+  $ printf '<a href rel=x>y</a>' | tl sanitize $(cat marked)
   <a rel="x">y</a> (no-eol)
-  $ printf '<a rel="x">y</a>' | tl sanitize --as-is $(cat marked)
+  $ printf '<a rel="x">y</a>' | tl sanitize $(cat marked)
   <a rel="x">y</a> (no-eol)
-  $ printf '<a>y</a>' | tl sanitize --as-is $(cat marked)
+  $ printf '<a>y</a>' | tl sanitize $(cat marked)
   <a>y</a> (no-eol)
-  $ printf '<area href="/x" alt=y>' | tl sanitize --as-is $(cat marked)
+  $ printf '<area href="/x" alt=y>' | tl sanitize $(cat marked)
   <area rel="nofollow noopener" href="/x" alt="y"> (no-eol)
-  $ printf '<img src="/x" rel=x>' | tl sanitize --as-is $(cat marked)
+  $ printf '<img src="/x" rel=x>' | tl sanitize $(cat marked)
   <img src="/x" rel="x"> (no-eol)
-  $ printf '<q cite="/x" href="/y">z</q>' | tl sanitize --as-is $(cat marked)
+  $ printf '<q cite="/x" href="/y">z</q>' | tl sanitize $(cat marked)
   <q cite="/x" href="/y">z</q> (no-eol)
-  $ printf '<A HREF="/x">y</A>' | tl sanitize --as-is $(cat marked)
-  y (no-eol)
+  $ printf '<A HREF="/x">y</A>' | tl sanitize $(cat marked)
+  <a rel="nofollow noopener" href="/x">y</a> (no-eol)
 
 Tables and parts of documents.
 
-  $ printf '<section><h2>x</h2><form>y</form></section>' | tl sanitize --as-is --documents
+  $ printf '<section><h2>x</h2><form>y</form></section>' | tl sanitize --documents
   <section><h2>x</h2>y</section> (no-eol)
-  $ printf '<main><table><tr><td colspan=2>x' | tl sanitize --as-is --documents
+  $ printf '<main><table><tr><td colspan=2>x' | tl sanitize --documents
   <main><table><tbody><tr><td colspan="2">x</td></tr></tbody></table></main> (no-eol)
-  $ printf '<article><p>x</article>' | tl sanitize --as-is --documents
+  $ printf '<article><p>x</article>' | tl sanitize --documents
   <article><p>x</p></article> (no-eol)
 
 Comments of readers.
 
-  $ printf '<h1>x</h1><p>y<img src="https://e/x"><em>z</em></p>' | tl sanitize --as-is --comments
+  $ printf '<h1>x</h1><p>y<img src="https://e/x"><em>z</em></p>' | tl sanitize --comments
   x<p>y<em>z</em></p> (no-eol)
-  $ printf '<a href="https://e/x" class="user-a" id="user-b">x</a>' | tl sanitize --as-is --comments
+  $ printf '<a href="https://e/x" class="user-a" id="user-b">x</a>' | tl sanitize --comments
   <a href="https://e/x">x</a> (no-eol)
-  $ printf '<a href="mailto:x@e">x</a>' | tl sanitize --as-is --comments
+  $ printf '<a href="mailto:x@e">x</a>' | tl sanitize --comments
   <a>x</a> (no-eol)
-  $ printf '<a href="/x">x</a>' | tl sanitize --as-is --comments
+  $ printf '<a href="/x">x</a>' | tl sanitize --comments
   <a>x</a> (no-eol)
-  $ printf '<a href="x">x</a>' | tl sanitize --as-is --comments
+  $ printf '<a href="x">x</a>' | tl sanitize --comments
   <a>x</a> (no-eol)
 
 Tags that end others, and that may not stand in one another.
 
-  $ printf '<p>a<p>b' | tl sanitize --as-is
+  $ printf '<p>a<p>b' | tl sanitize
   <p>a</p><p>b</p> (no-eol)
-  $ printf '<ul><li>x<li>y</ul>' | tl sanitize --as-is
+  $ printf '<ul><li>x<li>y</ul>' | tl sanitize
   <ul><li>x</li><li>y</li></ul> (no-eol)
-  $ printf '<ul><li><p>x<li><p>y' | tl sanitize --as-is
+  $ printf '<ul><li><p>x<li><p>y' | tl sanitize
   <ul><li><p>x</p></li><li><p>y</p></li></ul> (no-eol)
-  $ printf '<p>a<div>b</div>c</p>' | tl sanitize --as-is
-  <p>a</p><div>b</div>c (no-eol)
-  $ printf '<p><span>a<div>b</div></span></p>c' | tl sanitize --as-is
-  <p><span>ab</span></p>c (no-eol)
-  $ printf '<dl><dt>a<dd>b<dt>c</dl>' | tl sanitize --as-is
+  $ printf '<p>a<div>b</div>c</p>' | tl sanitize
+  <p>a</p><div>b</div>c<p></p> (no-eol)
+  $ printf '<p><span>a<div>b</div></span></p>c' | tl sanitize
+  <p><span>a</span></p><div>b</div><p></p>c (no-eol)
+  $ printf '<dl><dt>a<dd>b<dt>c</dl>' | tl sanitize
   <dl><dt>a</dt><dd>b</dd><dt>c</dt></dl> (no-eol)
-  $ printf '<a>x<a>y</a>z</a>' | tl sanitize --as-is
-  <a>xyz</a> (no-eol)
-  $ printf '<h1>x<h2>y</h2></h1>' | tl sanitize --as-is
-  <h1>xy</h1> (no-eol)
-  $ printf '<h1>x<p>y<h2>z' | tl sanitize --as-is
-  <h1>x<p>yz</p></h1> (no-eol)
-  $ printf '<li>x<span><li>y</span>z' | tl sanitize --as-is
-  <li>x<span>yz</span></li> (no-eol)
-  $ printf '<b>1<b>2<b>3<b>4</b></b></b></b>5' | tl sanitize --as-is
+  $ printf '<a>x<a>y</a>z</a>' | tl sanitize
+  <a>x</a><a>y</a>z (no-eol)
+  $ printf '<h1>x<h2>y</h2></h1>' | tl sanitize
+  <h1>x</h1><h2>y</h2> (no-eol)
+  $ printf '<h1>x<p>y<h2>z' | tl sanitize
+  <h1>x<p>y</p></h1><h2>z</h2> (no-eol)
+  $ printf '<li>x<span><li>y</span>z' | tl sanitize
+  <li>x<span></span></li><li>yz</li> (no-eol)
+  $ printf '<b>1<b>2<b>3<b>4</b></b></b></b>5' | tl sanitize
   <b>1<b>2<b>3<b>4</b></b></b></b>5 (no-eol)
-  $ printf '<pre>\n\nx\n</pre>' | tl sanitize --as-is
+  $ printf '<pre>\n\nx\n</pre>' | tl sanitize
   <pre>x
   </pre> (no-eol)
-  $ printf '<pre>\ré&lt;</pre>' | tl sanitize --as-is
+  $ printf '<pre>\ré&lt;</pre>' | tl sanitize
   <pre>é&lt;</pre> (no-eol)
-  $ printf '<pre>&#10;&amp;y</pre>' | tl sanitize --as-is
+  $ printf '<pre>&#10;&amp;y</pre>' | tl sanitize
   <pre>&amp;y</pre> (no-eol)
-  $ printf '<pre><b></b>\nx</pre>' | tl sanitize --as-is
+  $ printf '<pre><b></b>\nx</pre>' | tl sanitize
   <pre><b></b>
   x</pre> (no-eol)
 
 Tables and ruby.
 
   $ echo '--tags caption,col,colgroup,p,rb,rt,rtc,ruby,table,tbody,td,tr' >ruby
-  $ printf '<table><tr><td>a<td>b<tr><td>c' | tl sanitize --as-is $(cat ruby)
+  $ printf '<table><tr><td>a<td>b<tr><td>c' | tl sanitize $(cat ruby)
   <table><tbody><tr><td>a</td><td>b</td></tr><tr><td>c</td></tr></tbody></table> (no-eol)
-  $ printf '<table>x<tr>y<td>z</td></tr></table>w' | tl sanitize --as-is $(cat ruby)
+  $ printf '<table>x<tr>y<td>z</td></tr></table>w' | tl sanitize $(cat ruby)
   <table><tbody><tr><td>z</td></tr></tbody></table>w (no-eol)
-  $ printf '<table> <tr> <td>x</td> </tr> </table>' | tl sanitize --as-is $(cat ruby)
+  $ printf '<table> <tr> <td>x</td> </tr> </table>' | tl sanitize $(cat ruby)
   <table> <tbody><tr> <td>x</td> </tr> </tbody></table> (no-eol)
-  $ printf '<table><caption>x<td>y' | tl sanitize --as-is $(cat ruby)
+  $ printf '<table><caption>x<td>y' | tl sanitize $(cat ruby)
   <table><caption>x</caption><tbody><tr><td>y</td></tr></tbody></table> (no-eol)
-  $ printf '<table><col><tr><td>x' | tl sanitize --as-is $(cat ruby)
+  $ printf '<table><col><tr><td>x' | tl sanitize $(cat ruby)
   <table><colgroup><col></colgroup><tbody><tr><td>x</td></tr></tbody></table> (no-eol)
-  $ printf '<p>1<table><tr><td><p>2<p>3' | tl sanitize --as-is $(cat ruby)
+  $ printf '<p>1<table><tr><td><p>2<p>3' | tl sanitize $(cat ruby)
   <p>1</p><table><tbody><tr><td><p>2</p><p>3</p></td></tr></tbody></table> (no-eol)
-  $ printf '<table><tr><td><table><tr><td>x</td></tr></table>y' | tl sanitize --as-is $(cat ruby)
+  $ printf '<table><tr><td><table><tr><td>x</td></tr></table>y' | tl sanitize $(cat ruby)
   <table><tbody><tr><td><table><tbody><tr><td>x</td></tr></tbody></table>y</td></tr></tbody></table> (no-eol)
-  $ printf '<table><table>x' | tl sanitize --as-is $(cat ruby)
-  <table></table> (no-eol)
-  $ printf '<tr><td>x' | tl sanitize --as-is $(cat ruby)
+  $ printf '<table><table>x' | tl sanitize $(cat ruby)
+  <table></table><table></table> (no-eol)
+  $ printf '<tr><td>x' | tl sanitize $(cat ruby)
   x (no-eol)
-  $ printf '<table><tbody><td>x</tbody><tr>' | tl sanitize --as-is $(cat ruby)
-  <table><tbody><tr><td>x</td></tr><tr></tr></tbody></table> (no-eol)
-  $ printf '<ruby>a<rt>b<rt>c</rt></rt></ruby>d' | tl sanitize --as-is $(cat ruby)
+  $ printf '<table><tbody><td>x</tbody><tr>' | tl sanitize $(cat ruby)
+  <table><tbody><tr><td>x</td></tr></tbody><tbody><tr></tr></tbody></table> (no-eol)
+  $ printf '<ruby>a<rt>b<rt>c</rt></rt></ruby>d' | tl sanitize $(cat ruby)
   <ruby>a<rt>b</rt><rt>c</rt></ruby>d (no-eol)
-  $ printf '<ruby>a<rtc>b<rt>c<rb>d</ruby>' | tl sanitize --as-is $(cat ruby)
+  $ printf '<ruby>a<rtc>b<rt>c<rb>d</ruby>' | tl sanitize $(cat ruby)
   <ruby>a<rtc>b<rt>c</rt></rtc><rb>d</rb></ruby> (no-eol)
 
 More tags in one another than may be open.
 
-  $ python3 -c 'print("<div>" * 600 + "x", end="")' | tl sanitize --as-is >deep
+  $ python3 -c 'print("<div>" * 600 + "x", end="")' | tl sanitize >deep
   $ python3 -c 'print("<div>" * 400 + "x" + "</div>" * 400, end="")' | cmp - deep
 
 Lists with one word that is refused, before a page is looked at.

@@ -1,477 +1,495 @@
 Selectors of CSS: which nodes they find, and what is said of a text that is none.
 
-  $ printf '<ul id=l><li class="a odd">1</li><li class=b>2</li><li class="a odd">3</li><li>4</li><li class=a>5</li></ul>' >list
-  $ printf '<div><h1>t</h1><p>a</p><!--c--><p>b</p><span>c</span><P class=x>d</P><h2></h2><p> </p><span><!--e--></span></div><div></div>' >mixed
-  $ printf '<section id=s><div class=c><div><p lang=en>x</p><em>y</em></div></div><p lang=en-GB>z</p><div><p lang=english>w</p></div></section>' >deep
-  $ printf '<a href="http://x.y/a.png" title="One Two">1</a><a HREF="/b.PNG" title="two">2</a><a title="">3</a><a title>4</a><a data-k="v w  x" class="é A">5</a><a rel="no-follow" lang="EN-us">6</a><a id="1a" class="x:y">7</a>' >links
+  $ printf '<!doctype html><ul id=l><li class="a odd">1</li><li class=b>2</li><li class="a odd">3</li><li>4</li><li class=a>5</li></ul>' >list
+  $ printf '<!doctype html><div><h1>t</h1><p>a</p><!--c--><p>b</p><span>c</span><P class=x>d</P><h2></h2><p> </p><span><!--e--></span></div><div></div>' >mixed
+  $ printf '<!doctype html><section id=s><div class=c><div><p lang=en>x</p><em>y</em></div></div><p lang=en-GB>z</p><div><p lang=english>w</p></div></section>' >deep
+  $ printf '<!doctype html><a href="http://x.y/a.png" title="One Two">1</a><a HREF="/b.PNG" title="two">2</a><a title="">3</a><a title>4</a><a data-k="v w  x" class="é A">5</a><a rel="no-follow" lang="EN-us">6</a><a id="1a" class="x:y">7</a>' >links
 
 Names, ids and classes. Numbers are those of nodes: texts and comments have some too.
 
-  $ tl select -n --as-is '*' list
-  0
+  $ tl select -n '*' list
   1
+  2
   3
+  4
   5
   7
   9
-  $ tl select -n --as-is LI list
-  1
-  3
+  11
+  13
+  $ tl select -n LI list
   5
   7
   9
-  $ tl select -n --as-is p mixed
-  3
-  6
-  10
+  11
   13
-  $ tl select -n --as-is '\70' mixed
-  3
-  6
+  $ tl select -n p mixed
+  7
   10
-  13
-  $ tl select -n --as-is '#l' list
-  0
-  $ tl select -n --as-is '#L' list
+  14
+  17
+  $ tl select -n '\70' mixed
+  7
+  10
+  14
+  17
+  $ tl select -n '#l' list
+  4
+  $ tl select -n '#L' list
   [1]
-  $ tl select -n --as-is .odd list
-  1
+  $ tl select -n .odd list
   5
-  $ tl select -n --as-is li.a.odd list
-  1
+  9
+  $ tl select -n li.a.odd list
   5
-  $ tl select -n --as-is '.x\:y' links
+  9
+  $ tl select -n '.x\:y' links
+  16
+  $ tl select -n '#\31 a' links
+  16
+  $ tl select -n '#1a' links
+  16
+  $ tl select -n '.é' links
   12
-  $ tl select -n --as-is '#\31 a' links
-  12
-  $ tl select -n --as-is '#1a' links
-  12
-  $ tl select -n --as-is '.é' links
-  8
-  $ tl select -n --as-is .a links
+  $ tl select -n .a links
   [1]
-  $ tl select -n --as-is ol list
+  $ tl select -n ol list
   [1]
 
 Combinators.
 
-  $ tl select -n --as-is 'section p' deep
-  3
+  $ tl select -n 'section p' deep
   7
-  10
-  $ tl select -n --as-is 'section > p' deep
+  11
+  14
+  $ tl select -n 'section > p' deep
+  11
+  $ tl select -n 'div div p' deep
   7
-  $ tl select -n --as-is 'div div p' deep
-  3
-  $ tl select -n --as-is 'div > div > p' deep
-  3
-  $ tl select -n --as-is 'p em' deep
+  $ tl select -n 'div > div > p' deep
+  7
+  $ tl select -n 'p em' deep
   [1]
-  $ tl select -n --as-is 'p + em' deep
-  5
-  $ tl select -n --as-is 'div + p' deep
-  7
-  $ tl select -n --as-is 'div ~ div' deep
+  $ tl select -n 'p + em' deep
   9
-  $ tl select -n --as-is 'div ~ p' deep
-  7
-  $ tl select -n --as-is 'p ~ div p' deep
-  10
-  $ tl select -n --as-is 'li + li' list
-  3
-  5
+  $ tl select -n 'div + p' deep
+  11
+  $ tl select -n 'div ~ div' deep
+  13
+  $ tl select -n 'div ~ p' deep
+  11
+  $ tl select -n 'p ~ div p' deep
+  14
+  $ tl select -n 'li + li' list
   7
   9
-  $ tl select -n --as-is 'li ~ li ~ li' list
-  5
-  7
+  11
+  13
+  $ tl select -n 'li ~ li ~ li' list
   9
-  $ tl select -n --as-is '.b ~ .a' list
-  5
+  11
+  13
+  $ tl select -n '.b ~ .a' list
   9
-  $ tl select -n --as-is '.b + .a + li' list
+  13
+  $ tl select -n '.b + .a + li' list
+  11
+  $ tl select -n h1+p mixed
   7
-  $ tl select -n --as-is h1+p mixed
-  3
-  $ tl select -n --as-is 'h1 ~ span' mixed
-  8
-  15
-  $ tl select -n --as-is 'p > p' mixed
+  $ tl select -n 'h1 ~ span' mixed
+  12
+  19
+  $ tl select -n 'p > p' mixed
   [1]
-  $ tl select -n --as-is 'div + div' mixed
-  17
-  $ tl select -n --as-is '* > *' mixed
-  1
+  $ tl select -n 'div + div' mixed
+  21
+  $ tl select -n '* > *' mixed
+  2
   3
-  6
-  8
+  4
+  5
+  7
   10
   12
-  13
-  15
+  14
+  16
+  17
+  19
+  21
 
 A part that holds nowhere.
 
-  $ tl select -n --as-is 'ol p' deep
+  $ tl select -n 'ol p' deep
   [1]
-  $ tl select -n --as-is 'section ol' deep
+  $ tl select -n 'section ol' deep
   [1]
-  $ tl select -n --as-is 'ol, p' deep
-  3
+  $ tl select -n 'ol, p' deep
   7
-  10
-  $ tl select -n --as-is 'p:not(ol p)' deep
-  3
+  11
+  14
+  $ tl select -n 'p:not(ol p)' deep
   7
-  10
-  $ tl select -n --as-is 'p:not(ol)' deep
-  3
+  11
+  14
+  $ tl select -n 'p:not(ol)' deep
   7
-  10
-  $ tl select -n --as-is ':is(ol, div) > p' deep
-  3
-  10
+  11
+  14
+  $ tl select -n ':is(ol, div) > p' deep
+  7
+  14
 
 Lists, and pseudo-classes that hold lists.
 
-  $ tl select -n --as-is '.b, ul' list
-  0
-  3
-  $ tl select -n --as-is 'h1, h2, span' mixed
-  1
-  8
+  $ tl select -n '.b, ul' list
+  4
+  7
+  $ tl select -n 'h1, h2, span' mixed
+  5
   12
-  15
-  $ tl select -n --as-is 'li:not(.a)' list
-  3
+  16
+  19
+  $ tl select -n 'li:not(.a)' list
   7
-  $ tl select -n --as-is ':not(li)' list
-  0
-  $ tl select -n --as-is 'li:not(.a, .b)' list
-  7
-  $ tl select -n --as-is 'li:not(:first-child):not(:last-child)' list
-  3
-  5
-  7
-  $ tl select -n --as-is ':not(div) > p' deep
-  7
-  $ tl select -n --as-is ':is(section, em)' deep
-  0
-  5
-  $ tl select -n --as-is ':where(div, section) > p' deep
-  3
-  7
-  10
-  $ tl select -n --as-is 'div:is(.c, :last-child)' deep
+  11
+  $ tl select -n ':not(li)' list
   1
   2
-  9
-  $ tl select -n --as-is 'p:not(div > *)' deep
+  3
+  4
+  $ tl select -n 'li:not(.a, .b)' list
+  11
+  $ tl select -n 'li:not(:first-child):not(:last-child)' list
   7
-  $ tl select -n --as-is ':is(.c > div) em' deep
+  9
+  11
+  $ tl select -n ':not(div) > p' deep
+  11
+  $ tl select -n ':is(section, em)' deep
+  4
+  9
+  $ tl select -n ':where(div, section) > p' deep
+  7
+  11
+  14
+  $ tl select -n 'div:is(.c, :last-child)' deep
   5
+  6
+  13
+  $ tl select -n 'p:not(div > *)' deep
+  11
+  $ tl select -n ':is(.c > div) em' deep
+  9
 
 `:has`.
 
-  $ tl select -n --as-is ':has(em)' deep
-  0
+  $ tl select -n ':has(em)' deep
   1
-  2
-  $ tl select -n --as-is 'div:has(> p)' deep
-  2
-  9
-  $ tl select -n --as-is 'div:has(p + em)' deep
+  3
+  4
+  5
+  6
+  $ tl select -n 'div:has(> p)' deep
+  6
+  13
+  $ tl select -n 'div:has(p + em)' deep
+  5
+  6
+  $ tl select -n 'div:has(+ p)' deep
+  5
+  $ tl select -n 'p:has(~ div)' deep
+  11
+  $ tl select -n ':has(> div > em)' deep
+  5
+  $ tl select -n 'div:has(> em, > p)' deep
+  6
+  13
+  $ tl select -n 'div:not(:has(em))' deep
+  13
+  $ tl select -n 'ul:has(.b)' list
+  4
+  $ tl select -n 'li:has(+ .b)' list
+  5
+  $ tl select -n 'div:not(:has(*))' mixed
+  21
+  $ tl select -n ':has(:has(em))' deep
   1
-  2
-  $ tl select -n --as-is 'div:has(+ p)' deep
-  1
-  $ tl select -n --as-is 'p:has(~ div)' deep
-  7
-  $ tl select -n --as-is ':has(> div > em)' deep
-  1
-  $ tl select -n --as-is 'div:has(> em, > p)' deep
-  2
-  9
-  $ tl select -n --as-is 'div:not(:has(em))' deep
-  9
-  $ tl select -n --as-is 'ul:has(.b)' list
-  0
-  $ tl select -n --as-is 'li:has(+ .b)' list
-  1
-  $ tl select -n --as-is 'div:not(:has(*))' mixed
-  17
-  $ tl select -n --as-is ':has(:has(em))' deep
-  0
-  1
+  3
+  4
+  5
 
 Places among siblings.
 
-  $ tl select -n --as-is li:first-child list
+  $ tl select -n li:first-child list
+  5
+  $ tl select -n li:last-child list
+  13
+  $ tl select -n :only-child list
   1
-  $ tl select -n --as-is li:last-child list
+  4
+  $ tl select -n p:only-child deep
+  14
+  $ tl select -n p:first-child mixed
+  [1]
+  $ tl select -n 'li:nth-child(2)' list
+  7
+  $ tl select -n 'li:nth-child(odd)' list
+  5
   9
-  $ tl select -n --as-is :only-child list
-  0
-  $ tl select -n --as-is p:only-child deep
+  13
+  $ tl select -n 'li:nth-child(even)' list
+  7
+  11
+  $ tl select -n 'li:nth-child(2n+1)' list
+  5
+  9
+  13
+  $ tl select -n 'li:nth-child(-n+3)' list
+  5
+  7
+  9
+  $ tl select -n 'li:nth-child(-2n+4)' list
+  7
+  11
+  $ tl select -n 'li:nth-child(n+4)' list
+  11
+  13
+  $ tl select -n 'li:nth-child(3n - 1)' list
+  7
+  13
+  $ tl select -n 'li:nth-child(-n)' list
+  [1]
+  $ tl select -n 'li:nth-child(0n+4)' list
+  11
+  $ tl select -n 'li:nth-child(0)' list
+  [1]
+  $ tl select -n 'li:nth-child(n)' list
+  5
+  7
+  9
+  11
+  13
+  $ tl select -n 'li:nth-last-child(2)' list
+  11
+  $ tl select -n 'li:nth-last-child(-n+2)' list
+  11
+  13
+  $ tl select -n 'li:nth-child(2 of .a)' list
+  9
+  $ tl select -n 'li:nth-child(-n+2 of .a)' list
+  5
+  9
+  $ tl select -n 'li:nth-last-child(1 of .odd)' list
+  9
+  $ tl select -n ':nth-child(1 of .b, .odd)' list
+  5
+  $ tl select -n 'p:nth-child(3)' mixed
   10
-  $ tl select -n --as-is p:first-child mixed
-  [1]
-  $ tl select -n --as-is 'li:nth-child(2)' list
-  3
-  $ tl select -n --as-is 'li:nth-child(odd)' list
-  1
-  5
-  9
-  $ tl select -n --as-is 'li:nth-child(even)' list
-  3
+  $ tl select -n 'p:nth-child(1 of p)' mixed
   7
-  $ tl select -n --as-is 'li:nth-child(2n+1)' list
-  1
-  5
-  9
-  $ tl select -n --as-is 'li:nth-child(-n+3)' list
-  1
-  3
-  5
-  $ tl select -n --as-is 'li:nth-child(-2n+4)' list
-  3
-  7
-  $ tl select -n --as-is 'li:nth-child(n+4)' list
-  7
-  9
-  $ tl select -n --as-is 'li:nth-child(3n - 1)' list
-  3
-  9
-  $ tl select -n --as-is 'li:nth-child(-n)' list
-  [1]
-  $ tl select -n --as-is 'li:nth-child(0n+4)' list
-  7
-  $ tl select -n --as-is 'li:nth-child(0)' list
-  [1]
-  $ tl select -n --as-is 'li:nth-child(n)' list
-  1
-  3
-  5
-  7
-  9
-  $ tl select -n --as-is 'li:nth-last-child(2)' list
-  7
-  $ tl select -n --as-is 'li:nth-last-child(-n+2)' list
-  7
-  9
-  $ tl select -n --as-is 'li:nth-child(2 of .a)' list
-  5
-  $ tl select -n --as-is 'li:nth-child(-n+2 of .a)' list
-  1
-  5
-  $ tl select -n --as-is 'li:nth-last-child(1 of .odd)' list
-  5
-  $ tl select -n --as-is ':nth-child(1 of .b, .odd)' list
-  1
-  $ tl select -n --as-is 'p:nth-child(3)' mixed
-  6
-  $ tl select -n --as-is 'p:nth-child(1 of p)' mixed
-  3
-  $ tl select -n --as-is 'div:nth-child(2)' mixed
-  17
+  $ tl select -n 'div:nth-child(2)' mixed
+  21
 
 Places among siblings of one name.
 
-  $ tl select -n --as-is p:first-of-type mixed
-  3
-  $ tl select -n --as-is p:last-of-type mixed
-  13
-  $ tl select -n --as-is :only-of-type mixed
-  1
-  12
-  $ tl select -n --as-is ':nth-of-type(2)' mixed
-  6
-  15
+  $ tl select -n p:first-of-type mixed
+  7
+  $ tl select -n p:last-of-type mixed
   17
-  $ tl select -n --as-is 'p:nth-of-type(odd)' mixed
+  $ tl select -n :only-of-type mixed
+  1
+  2
   3
-  10
-  $ tl select -n --as-is 'p:nth-of-type(-n+2)' mixed
-  3
-  6
-  $ tl select -n --as-is 'p:nth-last-of-type(2)' mixed
-  10
-  $ tl select -n --as-is 'span:nth-last-of-type(1)' mixed
-  15
-  $ tl select -n --as-is 'li:nth-of-type(3)' list
   5
-  $ tl select -n --as-is 'p.x:nth-of-type(3)' mixed
+  16
+  $ tl select -n ':nth-of-type(2)' mixed
   10
+  19
+  21
+  $ tl select -n 'p:nth-of-type(odd)' mixed
+  7
+  14
+  $ tl select -n 'p:nth-of-type(-n+2)' mixed
+  7
+  10
+  $ tl select -n 'p:nth-last-of-type(2)' mixed
+  14
+  $ tl select -n 'span:nth-last-of-type(1)' mixed
+  19
+  $ tl select -n 'li:nth-of-type(3)' list
+  9
+  $ tl select -n 'p.x:nth-of-type(3)' mixed
+  14
 
 What is empty, and what stands at the top.
 
-  $ tl select -n --as-is :empty mixed
-  12
-  15
-  17
-  $ tl select -n --as-is div:empty mixed
-  17
-  $ tl select -n --as-is :root list
-  0
-  $ tl select -n --as-is :root mixed
-  0
-  17
-  $ tl select -n --as-is :root:first-child mixed
-  0
-  $ tl select -n --as-is ':root > p' deep
-  7
+  $ tl select -n :empty mixed
+  2
+  16
+  19
+  21
+  $ tl select -n div:empty mixed
+  21
+  $ tl select -n :root list
+  1
+  $ tl select -n :root mixed
+  1
+  $ tl select -n :root:first-child mixed
+  1
+  $ tl select -n ':root > p' deep
+  [1]
   $ printf '<html><p>a' | tl select ':scope > p'
-  <p>a</p>
+  [1]
   $ printf '<html><p>a' | tl select '& > p'
-  <p>a</p>
-  $ tl select -n --as-is span:empty mixed
-  15
-  $ tl select -n --as-is p:empty mixed
+  [1]
+  $ tl select -n span:empty mixed
+  19
+  $ tl select -n p:empty mixed
   [1]
 
 Attributes.
 
-  $ tl select -n --as-is '[href]' links
-  0
-  2
-  $ tl select -n --as-is '[HREF]' links
-  0
-  2
-  $ tl select -n --as-is 'a[title]' links
-  0
-  2
+  $ tl select -n '[href]' links
   4
   6
-  $ tl select -n --as-is '[title=two]' links
-  2
-  $ tl select -n --as-is '[title="Two"]' links
-  [1]
-  $ tl select -n --as-is '[title="two" i]' links
-  2
-  $ tl select -n --as-is '[title="TWO" i]' links
-  2
-  $ tl select -n --as-is '[title="TWO" s]' links
-  [1]
-  $ tl select -n --as-is '[title=""]' links
+  $ tl select -n '[HREF]' links
   4
   6
-  $ tl select -n --as-is '[title~=Two]' links
-  0
-  $ tl select -n --as-is '[title~=two i]' links
-  0
-  2
-  $ tl select -n --as-is '[title~="One Two"]' links
-  [1]
-  $ tl select -n --as-is '[title~=""]' links
-  [1]
-  $ tl select -n --as-is '[data-k~=w]' links
+  $ tl select -n 'a[title]' links
+  4
+  6
   8
-  $ tl select -n --as-is '[data-k~=x]' links
-  8
-  $ tl select -n --as-is '[lang|=en]' links
+  10
+  $ tl select -n '[title=two]' links
+  6
+  $ tl select -n '[title="Two"]' links
   [1]
-  $ tl select -n --as-is '[lang|=EN]' links
+  $ tl select -n '[title="two" i]' links
+  6
+  $ tl select -n '[title="TWO" i]' links
+  6
+  $ tl select -n '[title="TWO" s]' links
+  [1]
+  $ tl select -n '[title=""]' links
+  8
   10
-  $ tl select -n --as-is '[lang|=en i]' links
-  10
-  $ tl select -n --as-is '[lang|=en]' deep
-  3
+  $ tl select -n '[title~=Two]' links
+  4
+  $ tl select -n '[title~=two i]' links
+  4
+  6
+  $ tl select -n '[title~="One Two"]' links
+  [1]
+  $ tl select -n '[title~=""]' links
+  [1]
+  $ tl select -n '[data-k~=w]' links
+  12
+  $ tl select -n '[data-k~=x]' links
+  12
+  $ tl select -n '[lang|=en]' links
+  14
+  $ tl select -n '[lang|=EN]' links
+  14
+  $ tl select -n '[lang|=en i]' links
+  14
+  $ tl select -n '[lang|=en]' deep
   7
-  $ tl select -n --as-is '[lang|="en-GB"]' deep
-  7
-  $ tl select -n --as-is '[rel|=no]' links
-  10
-  $ tl select -n --as-is '[href^=http]' links
-  0
-  $ tl select -n --as-is '[href^="/"]' links
-  2
-  $ tl select -n --as-is '[href^=""]' links
+  11
+  $ tl select -n '[lang|="en-GB"]' deep
+  11
+  $ tl select -n '[rel|=no]' links
+  14
+  $ tl select -n '[href^=http]' links
+  4
+  $ tl select -n '[href^="/"]' links
+  6
+  $ tl select -n '[href^=""]' links
   [1]
-  $ tl select -n --as-is '[href$=".png"]' links
-  0
-  $ tl select -n --as-is '[href$=".png" i]' links
-  0
-  2
-  $ tl select -n --as-is '[href$=""]' links
+  $ tl select -n '[href$=".png"]' links
+  4
+  $ tl select -n '[href$=".png" i]' links
+  4
+  6
+  $ tl select -n '[href$=""]' links
   [1]
-  $ tl select -n --as-is '[href*="x.y"]' links
-  0
-  $ tl select -n --as-is '[href*=""]' links
+  $ tl select -n '[href*="x.y"]' links
+  4
+  $ tl select -n '[href*=""]' links
   [1]
-  $ tl select -n --as-is '[title*="e t" i]' links
-  0
-  $ tl select -n --as-is '[title*="e t"]' links
+  $ tl select -n '[title*="e t" i]' links
+  4
+  $ tl select -n '[title*="e t"]' links
   [1]
-  $ tl select -n --as-is '[href*=PNG i]' links
-  0
-  2
-  $ tl select -n --as-is '[id="1a"]' links
+  $ tl select -n '[href*=PNG i]' links
+  4
+  6
+  $ tl select -n '[id="1a"]' links
+  16
+  $ tl select -n '[class~=A]' links
   12
-  $ tl select -n --as-is '[class~=A]' links
-  8
-  $ tl select -n --as-is '[class]' links
-  8
+  $ tl select -n '[class]' links
   12
-  $ tl select -n --as-is 'a:not([title])' links
-  8
-  10
+  16
+  $ tl select -n 'a:not([title])' links
   12
-  $ tl select -n --as-is '[id]' links
-  12
+  14
+  16
+  $ tl select -n '[id]' links
+  16
 
 By what names and values say, in pages that are read as browsers read them.
 
   $ printf '<p @click=a></p><p click=a></p>' | tl select -n '[\@click]'
-  0
+  3
   $ printf '<p @click=a></p>' | tl select -n '[\+40click]'
   [1]
   $ printf '<p @click=a></p>' | tl select -n p
-  0
+  3
   $ printf '<A HREF="?a=1&b=2"></A>' | tl select -n 'a[href="?a=1&b=2"]'
-  0
+  3
   $ printf '<a href="?a=1&amp;b=2"></a>' | tl select -n '[href="?a=1&b=2"]'
-  0
+  3
   $ printf '<a href="?a=1&amp;b=2"></a>' | tl select -n '[href*="&amp;"]'
   [1]
   $ printf '<a href="?a=1&amp;b=2"></a>' | tl select -n '[href$="&b=2"]'
-  0
+  3
   $ printf '<a href=x></a>' | tl select -n '[href=x]'
-  0
+  3
   $ printf '<p id=caf&eacute;></p>' | tl select -n '#café'
-  0
+  3
   $ printf '<p id="café"></p>' | tl select -n '#café'
-  0
+  3
   $ printf '<p id="a&amp;b"></p>' | tl select -n '#a\&b'
-  0
+  3
   $ printf '<p id="a&amp;b"></p>' | tl select -n '#a\&amp\;b'
   [1]
   $ printf '<p id=a></p><p></p>' | tl select -n '#a'
-  0
-  $ printf '<p class="x a&lt;b\ty"></p><p></p>' | tl select -n '.a\<b'
-  0
-  $ printf '<p class="x&#32;y"></p>' | tl select -n .y
-  0
-  $ printf '<p class="x y"></p>' | tl select -n .y
-  0
-  $ printf '<p class></p>' | tl select -n '[class]'
-  0
-  $ printf '<command></command><fb:like></fb:like>' | tl select -n command
-  0
-  $ printf '<command></command><fb:like></fb:like>' | tl select -n 'fb\:like'
-  1
-  $ printf '<a+b></a+b><p><a+b></a+b></p>' | tl select -n 'a\+b:first-of-type'
-  0
-  2
-  $ printf '<a+b></a+b><p></p><a+b></a+b>' | tl select -n 'a\+b ~ a\+b'
-  2
-  $ printf '<p>a</p><p></p>' | tl select -n p:empty
-  2
-  $ printf '<ul><li>1<li>2</ul>' | tl select -n 'ul > li:nth-child(2)'
   3
+  $ printf '<p class="x a&lt;b\ty"></p><p></p>' | tl select -n '.a\<b'
+  3
+  $ printf '<p class="x&#32;y"></p>' | tl select -n .y
+  3
+  $ printf '<p class="x y"></p>' | tl select -n .y
+  3
+  $ printf '<p class></p>' | tl select -n '[class]'
+  3
+  $ printf '<command></command><fb:like></fb:like>' | tl select -n command
+  3
+  $ printf '<command></command><fb:like></fb:like>' | tl select -n 'fb\:like'
+  4
+  $ printf '<a+b></a+b><p><a+b></a+b></p>' | tl select -n 'a\+b:first-of-type'
+  3
+  5
+  $ printf '<a+b></a+b><p></p><a+b></a+b>' | tl select -n 'a\+b ~ a\+b'
+  5
+  $ printf '<p>a</p><p></p>' | tl select -n p:empty
+  5
+  $ printf '<ul><li>1<li>2</ul>' | tl select -n 'ul > li:nth-child(2)'
+  6
   $ printf '<p title="a&quot;b"></p>' | tl select -n '[title="a\"b"]'
-  0
+  3
   $ printf '<p x.y=1></p>' | tl select -n '[x\.y="1"]'
-  0
+  3
 
 What is said of texts that are no selectors: each cause, and each thing to write in its place.
 

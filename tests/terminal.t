@@ -16,9 +16,9 @@ Names of files have colours.
   $ python3 terminal.py 'tl select -t p a.html 2>said'
   x\x0d (esc)
   $ python3 terminal.py 'tl select --json p a.html b.html 2>said'
-  {"attributes":{},"file":"a.html","name":"p","node":0,"text":"x"}\x0d (esc)
-  {"attributes":{},"file":"b.html","name":"p","node":0,"text":"y"}\x0d (esc)
-  {"attributes":{},"file":"b.html","name":"p","node":2,"text":"z"}\x0d (esc)
+  {"file":"a.html","attributes":{},"name":"p","node":3,"start":0,"end":3,"text":"x"}\x0d (esc)
+  {"file":"b.html","attributes":{},"name":"p","node":3,"start":0,"end":3,"text":"y"}\x0d (esc)
+  {"file":"b.html","attributes":{},"name":"p","node":5,"start":4,"end":7,"text":"z"}\x0d (esc)
 
 They have none with NO_COLOR, on a terminal that takes none, and elsewhere.
 
@@ -85,14 +85,14 @@ How far the work is, is said on standard error where there are more than a hundr
 It is said of a long page too.
 
   $ head -c 33554432 /dev/zero | tr '\0' x >long
-  $ python3 terminal.py 'tl select --as-is -c p long' | tr -d '\r' | tr '\033' '\n'
+  $ python3 terminal.py 'tl select -c p long' | tr -d '\r' | tr '\033' '\n'
   (empty)
   7
   [Ktl: a page of 33 MB
   8
   [K0
   $ head -c 33554431 long >shorter
-  $ python3 terminal.py 'tl select --as-is -c p shorter' | tr -d '\r' | tr '\033' '\n'
+  $ python3 terminal.py 'tl select -c p shorter' | tr -d '\r' | tr '\033' '\n'
   (empty)
   [K0
 
@@ -127,9 +127,3 @@ What is said of a page takes its place, whatever that is.
   [Ktl: file 1 of 104
   8
   [Ktl: bytes: no UTF-8 at byte 0; --encoding says what a page is in
-  $ python3 terminal.py 'tl edit "name 9 b" -- *.html 2>&1 >said' | tr -d '\r' | tr '\033' '\n' | sed -n '1,5p'
-  (empty)
-  7
-  [Ktl: file 1 of 103
-  8
-  [Ktl: 1.html: step 1 is refused: no node has this number

@@ -17,12 +17,12 @@ Each command, and each option of `select`.
   x<b>y</b>
   z<img src="i.png" srcset="j.png 2x"><a href="/q"></a>
   $ tl select -n p <page
-  0
-  4
+  3
+  7
   $ tl select -c p <page
   2
   $ tl select -n0 p <page
-  0\x004\x00 (esc) (no-eol)
+  3\x007\x00 (esc) (no-eol)
   $ tl select -c0 p <page
   2\x00 (esc) (no-eol)
   $ tl select -H0 p <page
@@ -36,65 +36,67 @@ Each command, and each option of `select`.
   $ tl select -1 p <page
   <p id="a">x<b>y</b></p>
   $ tl select --first -n p <page
-  0
+  3
   $ tl select -1a href p <page
   [1]
   $ printf '<p id=x b a="y&" class=c>d<b>e\042</b></p>' | tl select --json 'p, b'
-  [{"attributes":{"a":"y&","b":"","class":"c","id":"x"},"name":"p","node":0,"text":"de\""},{"attributes":{},"name":"b","node":2,"text":"e\""}]
+  [{"attributes":{"id":"x","b":"","a":"y&","class":"c"},"name":"p","node":3,"start":0,"end":25,"text":"de\""},{"attributes":{},"name":"b","node":5,"start":26,"end":29,"text":"e\""}]
   $ printf 'a<!--b--><i>' | tl select --json '*'
-  [{"attributes":{},"name":"i","node":2,"text":""}]
+  [{"attributes":{},"name":"html","node":0,"text":"a"},{"attributes":{},"name":"head","node":1,"text":""},{"attributes":{},"name":"body","node":2,"text":"a"},{"attributes":{},"name":"i","node":5,"start":9,"end":12,"text":""}]
   $ printf 'a<p id=x b>t&amp;"<b>u</b><!--c--><br></p><ul><li>1<li>2</ul>' >below
   $ tl select --json --tree p below
-  [{"attributes":{"b":"","id":"x"},"name":"p","node":1,"text":"t&\"u","children":[{"attributes":{},"name":null,"node":2,"text":"t&\""},{"attributes":{},"name":"b","node":3,"children":[{"attributes":{},"name":null,"node":4,"text":"u"}]},{"attributes":{},"name":null,"node":5,"text":""},{"attributes":{},"name":"br","node":6,"children":[]}]}]
-  $ tl select --tree --json --raw -m1 p below
-  [{"attributes":{"b":"","id":"x"},"name":"p","node":1,"text":"t&amp;\"u","children":[{"attributes":{},"name":null,"node":2,"text":"t&amp;\""},{"attributes":{},"name":"b","node":3,"children":[{"attributes":{},"name":null,"node":4,"text":"u"}]},{"attributes":{},"name":null,"node":5,"text":""},{"attributes":{},"name":"br","node":6,"children":[]}]}]
-  $ tl select --json --tree --as-is br -0 below
-  [{"attributes":{},"name":"br","node":6,"text":"","children":[]}]\x00 (esc) (no-eol)
+  [{"attributes":{"id":"x","b":""},"name":"p","node":4,"start":1,"end":11,"children":[{"attributes":{},"name":null,"node":5,"start":11,"end":18,"text":"t&\""},{"attributes":{},"name":"b","node":6,"start":18,"end":21,"children":[{"attributes":{},"name":null,"node":7,"start":21,"end":22,"text":"u"}]},{"attributes":{},"name":null,"node":8,"start":26,"end":34,"comment":"c"},{"attributes":{},"name":"br","node":9,"start":34,"end":38,"children":[]}]}]
+  $ tl select --json --tree br -0 below
+  [{"attributes":{},"name":"br","node":9,"start":34,"end":38,"children":[]}]\x00 (esc) (no-eol)
   $ tl select --json --tree 'ul, li:last-child' below
-  [{"attributes":{},"name":"ul","node":7,"text":"12","children":[{"attributes":{},"name":"li","node":8,"children":[{"attributes":{},"name":null,"node":9,"text":"1"}]},{"attributes":{},"name":"li","node":10,"children":[{"attributes":{},"name":null,"node":11,"text":"2"}]}]},{"attributes":{},"name":"li","node":10,"text":"2","children":[{"attributes":{},"name":null,"node":11,"text":"2"}]}]
+  [{"attributes":{},"name":"ul","node":10,"start":42,"end":46,"children":[{"attributes":{},"name":"li","node":11,"start":46,"end":50,"children":[{"attributes":{},"name":null,"node":12,"start":50,"end":51,"text":"1"}]},{"attributes":{},"name":"li","node":13,"start":51,"end":55,"children":[{"attributes":{},"name":null,"node":14,"start":55,"end":56,"text":"2"}]}]},{"attributes":{},"name":"li","node":13,"start":51,"end":55,"children":[{"attributes":{},"name":null,"node":14,"start":55,"end":56,"text":"2"}]}]
   $ tl select -1 --json --tree li below
-  [{"attributes":{},"name":"li","node":8,"text":"1","children":[{"attributes":{},"name":null,"node":9,"text":"1"}]}]
+  [{"attributes":{},"name":"li","node":11,"start":46,"end":50,"children":[{"attributes":{},"name":null,"node":12,"start":50,"end":51,"text":"1"}]}]
   $ tl select -1 --json li below
-  [{"attributes":{},"name":"li","node":8,"text":"1"}]
+  [{"attributes":{},"name":"li","node":11,"start":46,"end":50,"text":"1"}]
   $ tl select --json --tree i below
   []
   [1]
   $ tl select --json --tree -q li below
   $ python3 -c 'print("<b>" * 100000 + "x")' | tl select --json --tree -m1 b | python3 -c 'import sys; s = sys.stdin.read().strip(); print(len(s), s.count("children"), s[-9:])'
-  5488961 100000 ]}]}]}]}]
+  8214916 100000 ]}]}]}]}]
   $ tl links <page
   i.png
-  j.png 2x
+  j.png
   /q
   $ tl links --null <page
-  i.png\x00j.png 2x\x00/q\x00 (esc) (no-eol)
+  i.png\x00j.png\x00/q\x00 (esc) (no-eol)
   $ tl links page - <page
   page:i.png
-  page:j.png 2x
+  page:j.png
   page:/q
   -:i.png
-  -:j.png 2x
+  -:j.png
   -:/q
   $ tl text <page
   xyz (no-eol)
   $ printf '<title>T</title><style>p{}</style><div>a\n b<b>c</b><p> d<br>e</p></div><script>f</script>' | tl text -w
-  T
   a bc
+  (empty)
   d
   e
   $ tl print <page
-  <p id="a">x<b>y</b></p><p>z<img src="i.png" srcset="j.png 2x"><a href="/q"></a></p> (no-eol)
+  <html><head></head><body><p id="a">x<b>y</b></p><p>z<img src="i.png" srcset="j.png 2x"><a href="/q"></a></p></body></html> (no-eol)
   $ printf '<p>a<br></p>\n' | tl outline
-  p
-    "a"
-    br
+  html
+    head
+    body
+      p
+        "a"
+        br
   $ printf '<p>a<br></p>\n' | tl outline -n
-  0\x09p (esc)
-  1\x09  "a" (esc)
-  2\x09  br (esc)
-  3\x09"" (esc)
-  $ printf '<a>y</a>' | tl edit 'set 0 href /x y' 'name 0 b'
-  <b href="/x y">y</b> (no-eol)
+  0\x09html (esc)
+  1\x09  head (esc)
+  2\x09  body (esc)
+  3\x09    p (esc)
+  4\x09      "a" (esc)
+  5\x09      br (esc)
+  6\x09    "" (esc)
   $ printf '<p onclick=f()>x<script>y</script><a href="javascript:f()">z' | tl sanitize
   <p>x<a>z</a></p> (no-eol)
   $ printf '<p id=i title=t><i>a</i><b>c' | tl sanitize --tags p,i --keys title
@@ -102,21 +104,34 @@ Each command, and each option of `select`.
   $ printf '<p id=u-i><a href="ftp:x" id=i></a><a href="/y">' | tl sanitize --keys=id,href --link-keys=href --links=/ --prefix=u-
   <p id="u-i"><a></a><a href="/y"></a></p> (no-eol)
   $ tl print
+  <html><head></head><body></body></html> (no-eol)
+  $ tl outline
+  html
+    head
+    body
+  $ printf '<!doctype html><title>T</title><ul><li>a<li>b <i>c</i></ul><pre>d</pre>' | tl print --pretty
+  <!DOCTYPE html>
+  <html>
+    <head>
+      <title>T</title>
+    </head>
+    <body>
+      <ul>
+        <li>a</li>
+        <li>b <i>c</i></li>
+      </ul>
+      <pre>d</pre>
+    </body>
+  </html> (no-eol)
   $ tl select --json -0 b <page
-  [{"attributes":{},"name":"b","node":2,"text":"y"}]\x00 (esc) (no-eol)
-  $ printf '<p =1>' | tl select --as-is -a '' p
-  1
+  [{"attributes":{},"name":"b","node":5,"start":9,"end":12,"text":"y"}]\x00 (esc) (no-eol)
+  $ printf '<p =1>' | tl select -a '' p
+  [1]
   $ printf '<p>a<b> b' | tl text --no-name
   a b (no-eol)
-  $ printf '<a>y</a>' | tl edit 'set 0 b 1' 'set 0 b 2'
-  <a b="2">y</a> (no-eol)
   $ printf '<select><option>A</option><option>B' | tl text -w
   A
   B
-  $ printf "$(printf '<!doctype html\360\237\230\2000')" | tl text --as-is -w
-  ���0
-  $ printf "$(printf '<!doctype html\360\237\230\2000')" | tl outline --as-is
-  "���0"
 
 Where there is nothing, and no memory is wanted for it.
 
@@ -124,13 +139,12 @@ Where there is nothing, and no memory is wanted for it.
   [1]
   $ tl links
   [1]
-  $ tl outline
   $ tl text
   $ printf '<!-- x -->' | tl text -w
-  $ printf '<a hidden>' | tl select --as-is -a hidden a
-  [1]
-  $ printf '<a hidden>' | tl select --as-is -1a hidden a
-  [1]
+  $ printf '<a hidden>' | tl select -a hidden a
+  (empty)
+  $ printf '<a hidden>' | tl select -1a hidden a
+  (empty)
 
 Selectors are those of CSS.
 
@@ -147,16 +161,16 @@ Selectors are those of CSS.
   $ tl select -t '[class="x y"]' shelf
   b
   $ tl select -n 'p:nth-child(2), p:last-child' shelf
-  2
-  11
+  5
+  14
   $ tl select -c 'p:nth-of-type(odd)' shelf
   1
   $ tl select -n ':has(> li)' shelf
-  4
+  7
   $ tl select -n 'li:empty, ul:empty' shelf
   [1]
   $ tl select -n 'P:IS(.x, .z)' shelf
-  2
+  5
 
 Of each page the first nodes alone; whether there are some; the files that have some.
 
@@ -164,10 +178,10 @@ Of each page the first nodes alone; whether there are some; the files that have 
   1
   2
   $ tl select -m2 -n 'li, img' shelf
-  5
-  7
+  8
+  10
   $ tl select --max-count=1 --json li shelf
-  [{"attributes":{},"name":"li","node":5,"text":"1"}]
+  [{"attributes":{},"name":"li","node":8,"start":34,"end":38,"text":"1"}]
   $ tl select -m 9 -c li shelf
   3
   $ tl select -m 4294967295 -c li shelf
@@ -268,24 +282,20 @@ Tables as CSV.
 
   $ printf '<table><caption>c</caption><tr><th>a<th>b, c</tr><tbody><tr><td>1<td colspan=2> d\n <b>e</b> &amp; f</tbody><tfoot><tr><td>"x"</tfoot></table>' >table
   $ tl table table
-  a,"b, c"
-  1,d e & f
-  """x"""
-  $ tl table --raw table
-  a,"b, c"
-  1,d e &amp; f
-  """x"""
+  a,"b, c",
+  1,d e & f,d e & f
+  """x""",,
   $ tl table -n 1 table
-  a,"b, c"
-  1,d e & f
-  """x"""
+  a,"b, c",
+  1,d e & f,d e & f
+  """x""",,
   $ tl table --number=2 table
   [1]
   $ tl table --number 4294967295 table
   [1]
   $ printf '<table><tr><td>o<table><tr><td>i<td>j</table>p<td>q<tr></table><table><tr><td>z' | tl table
   o i j p,q
-  ""
+  ,
   $ printf '<table><tr><td>o<table><tr><td>i<td>j</table>p<td>q<tr></table><table><tr><td>z' | tl table -n 2
   i,j
   $ printf '<table><tr><td>o<table><tr><td>i<td>j</table>p<td>q<tr></table><table><tr><td>z' | tl table -n 3
@@ -294,8 +304,9 @@ Tables as CSV.
   [1]
   $ printf '<TABLE><TR><TD>a<br>b<TD><script>f()</script>c&nbsp;d' | tl table
   a b,c\xa0d (esc)
-  $ printf '<table><tr><td>a</td><p><tr><td>b</table>' | tl table --as-is
+  $ printf '<table><tr><td>a</td><p><tr><td>b</table>' | tl table
   a
+  b
   $ printf '<table></table>' | tl table
   $ tl table <page
   [1]
@@ -306,12 +317,12 @@ Tables as CSV.
   tl: no number of a table: x (err)
   [2]
   $ tl table table page table
-  table:a,"b, c"
-  table:1,d e & f
-  table:"""x"""
-  table:a,"b, c"
-  table:1,d e & f
-  table:"""x"""
+  table:a,"b, c",
+  table:1,d e & f,d e & f
+  table:"""x""",,
+  table:a,"b, c",
+  table:1,d e & f,d e & f
+  table:"""x""",,
 
 The text inside of nodes.
 
@@ -322,6 +333,7 @@ The text inside of nodes.
   (empty)
   $ tl text -w --in article articles
   a
+  (empty)
   b c
   e
   $ tl text -w --in p articles
@@ -340,6 +352,7 @@ The text inside of nodes.
   [2]
   $ tl text -w --in article articles page
   articles:a
+  articles:
   articles:b c
   articles:e
 
@@ -347,7 +360,7 @@ The names of files are taken as they stand.
 
   $ printf '<p>a' >'x '
   $ tl print 'x '
-  <p>a</p> (no-eol)
+  <html><head></head><body><p>a</p></body></html> (no-eol)
   $ tl print x ' x'
   tl: x: No such file or directory (os error 2) (err)
   tl:  x: No such file or directory (os error 2) (err)
@@ -365,21 +378,6 @@ Nothing was found, or something is refused or not understood.
   $ tl select --json i <page
   []
   [1]
-  $ printf '<a></a>' | tl edit 'push 5 0'
-  tl: -: step 1 is refused: no node has this number (err)
-  [2]
-  $ printf '<p>a' | tl edit 'name 0 b' 'set 1 href /x'
-  tl: -: step 2 is refused: the node is no tag (err)
-  [2]
-  $ printf '<p>a' | tl edit 'pull 0 1'
-  tl: -: step 1 is refused: there is no such place (err)
-  [2]
-  $ printf '<p>a' | tl edit 'push 0 9'
-  tl: -: refused: a child is no node, or stands in itself (err)
-  [2]
-  $ printf '<p>a' | tl edit 'push 0 0'
-  tl: -: refused: a child is no node, or stands in itself (err)
-  [2]
   $ printf '\377' | tl print
   tl: -: no UTF-8 at byte 0; --encoding says what a page is in (err)
   [2]
@@ -435,32 +433,6 @@ Nothing was found, or something is refused or not understood.
   error: unexpected argument '-w' found (err)
   ...
   [2]
-  $ tl edit
-  error: the following required arguments were not provided: (err)
-  ...
-  [2]
-  $ tl edit 'push 0'
-  tl: no step: push 0 (err)
-  [2]
-  $ tl edit 'set 0 b 1' 'push 0'
-  tl: no step: push 0 (err)
-  [2]
-  $ tl edit ''
-  tl: no step: an empty word (err)
-  [2]
-  $ tl edit 'set 0 b 1' ''
-  tl: no step: an empty word (err)
-  [2]
-  $ tl edit 'set 0 b 1
-  > set 0 b 2'
-  tl: no step, but several lines: set 0 b 1 (err)
-  set 0 b 2 (err)
-  [2]
-  $ tl edit 'set 0 b 1
-  > '
-  tl: no step, but several lines: set 0 b 1 (err)
-  (empty) (err)
-  [2]
   $ tl print "$(printf '\377')"
   tl: words: no UTF-8 (err)
   [2]
@@ -490,9 +462,9 @@ Pages in files.
   two:<p>two
   two:<b></b></p>
   $ tl print one two
-  one:<p>one</p>
-  two:<p>two
-  two:<b></b></p>
+  one:<html><head></head><body><p>one</p></body></html>
+  two:<html><head></head><body><p>two
+  two:<b></b></p></body></html>
   $ tl select -t p one
   one
   $ tl select --no-name -t p one two
@@ -535,40 +507,37 @@ Pages in files.
   one\x00two (esc)
   \x00 (esc) (no-eol)
   $ tl select --json p one two
-  {"attributes":{},"file":"one","name":"p","node":0,"text":"one"}
-  {"attributes":{},"file":"two","name":"p","node":0,"text":"two\n"}
+  {"file":"one","attributes":{},"name":"p","node":3,"start":0,"end":3,"text":"one"}
+  {"file":"two","attributes":{},"name":"p","node":3,"start":0,"end":3,"text":"two\n"}
   $ tl select --json --tree p one two
-  {"attributes":{},"file":"one","name":"p","node":0,"text":"one","children":[{"attributes":{},"name":null,"node":1,"text":"one"}]}
-  {"attributes":{},"file":"two","name":"p","node":0,"text":"two\n","children":[{"attributes":{},"name":null,"node":1,"text":"two\n"},{"attributes":{},"name":"b","node":2,"children":[]}]}
+  {"file":"one","attributes":{},"name":"p","node":3,"start":0,"end":3,"children":[{"attributes":{},"name":null,"node":4,"start":3,"end":6,"text":"one"}]}
+  {"file":"two","attributes":{},"name":"p","node":3,"start":0,"end":3,"children":[{"attributes":{},"name":null,"node":4,"start":3,"end":7,"text":"two\n"},{"attributes":{},"name":"b","node":5,"start":7,"end":10,"children":[]}]}
   $ tl select --json --tree --no-name b one two
   []
-  [{"attributes":{},"name":"b","node":2,"text":"","children":[]}]
+  [{"attributes":{},"name":"b","node":5,"start":7,"end":10,"children":[]}]
   $ tl select --json --tree -l b one two
   two
   $ tl select --json --no-name p one two
-  [{"attributes":{},"name":"p","node":0,"text":"one"}]
-  [{"attributes":{},"name":"p","node":0,"text":"two\n"}]
+  [{"attributes":{},"name":"p","node":3,"start":0,"end":3,"text":"one"}]
+  [{"attributes":{},"name":"p","node":3,"start":0,"end":3,"text":"two\n"}]
   $ tl select --json -m1 'p, b' one two -
-  {"attributes":{},"file":"one","name":"p","node":0,"text":"one"}
-  {"attributes":{},"file":"two","name":"p","node":0,"text":"two\n"}
+  {"file":"one","attributes":{},"name":"p","node":3,"start":0,"end":3,"text":"one"}
+  {"file":"two","attributes":{},"name":"p","node":3,"start":0,"end":3,"text":"two\n"}
   $ tl select --json -0 p one two
-  {"attributes":{},"file":"one","name":"p","node":0,"text":"one"}\x00{"attributes":{},"file":"two","name":"p","node":0,"text":"two\x5cn"}\x00 (esc) (no-eol)
+  {"file":"one","attributes":{},"name":"p","node":3,"start":0,"end":3,"text":"one"}
+  {"file":"two","attributes":{},"name":"p","node":3,"start":0,"end":3,"text":"two\n"}
   $ cp one 'a "b"' && tl select --json p one 'a "b"' && rm 'a "b"'
-  {"attributes":{},"file":"one","name":"p","node":0,"text":"one"}
-  {"attributes":{},"file":"a \"b\"","name":"p","node":0,"text":"one"}
+  {"file":"one","attributes":{},"name":"p","node":3,"start":0,"end":3,"text":"one"}
+  {"file":"a \"b\"","attributes":{},"name":"p","node":3,"start":0,"end":3,"text":"one"}
   $ tl select --json b one two
-  {"attributes":{},"file":"two","name":"b","node":2,"text":""}
+  {"file":"two","attributes":{},"name":"b","node":5,"start":7,"end":10,"text":""}
   $ tl select -t0 p one two
   one:one\x00two:two (esc)
   \x00 (esc) (no-eol)
   $ tl select b one two
   two:<b></b>
-  $ tl edit 'name 0 b' -- one two
-  one:<b>one</b>
-  two:<b>two
-  two:<b></b></b>
   $ tl print -- -b
-  <b></b> (no-eol)
+  <html><head></head><body><b></b></body></html> (no-eol)
   $ tl select p one none two
   one:<p>one</p>
   two:<p>two
@@ -838,7 +807,6 @@ Help names each command and each option, and words the lists.
   table
   print
   outline
-  edit
   set
   unset
   rename
@@ -852,14 +820,13 @@ Help names each command and each option, and words the lists.
   after
   sanitize
   help
-  $ for command in select links text table print outline edit set unset rename remove unwrap replace fill prepend append before after sanitize; do tl $command --help >help && grep '^Usage: ' help; done
+  $ for command in select links text table print outline set unset rename remove unwrap replace fill prepend append before after sanitize; do tl $command --help >help && grep '^Usage: ' help; done
   Usage: tl select [OPTIONS] <SELECTOR> [FILE]...
   Usage: tl links [OPTIONS] [FILE]...
   Usage: tl text [OPTIONS] [FILE]...
   Usage: tl table [OPTIONS] [FILE]...
   Usage: tl print [OPTIONS] [FILE]...
   Usage: tl outline [OPTIONS] [FILE]...
-  Usage: tl edit [OPTIONS] <STEP>... [-- [FILE]...]
   Usage: tl set [OPTIONS] <SELECTOR> <KEY> <VALUE> [FILE]...
   Usage: tl unset [OPTIONS] <SELECTOR> <KEY> [FILE]...
   Usage: tl rename [OPTIONS] <SELECTOR> <NAME> [FILE]...
@@ -873,7 +840,6 @@ Help names each command and each option, and words the lists.
   Usage: tl after [OPTIONS] <SELECTOR> <TEXT> [FILE]...
   Usage: tl sanitize [OPTIONS] [FILE]...
   $ tl select --help >help && grep -oE -e '--[a-z-]+' help | sort -u
-  --as-is
   --attribute
   --count
   --encoding
@@ -887,11 +853,9 @@ Help names each command and each option, and words the lists.
   --null
   --number
   --quiet
-  --raw
   --text
   --tree
   $ tl sanitize --help >help && grep -oE -e '--[a-z-]+' help | sort -u
-  --as-is
   --comments
   --documents
   --encoding
@@ -915,8 +879,6 @@ Help names each command and each option, and words the lists.
   WORDS have commas between them
   $ tl --help | grep -o '^It ends with 0: all is done'
   It ends with 0: all is done
-  $ tl edit --help | grep -o '^A step is one word of the shell'
-  A step is one word of the shell
   $ tl select --help | grep -o '^SELECTOR is one of CSS'
   SELECTOR is one of CSS
   $ tl --help | grep -A3 '^Examples:'
@@ -924,14 +886,13 @@ Help names each command and each option, and words the lists.
     tl select -a href 'nav a' index.html    where the links of the navigation lead
     tl text -w index.html                   the text of a page, a block on a line
     tl sanitize comment.html                what of a page may be shown to others
-  $ for command in select links text table print outline edit set unset rename remove unwrap replace fill prepend append before after sanitize; do tl $command --help | grep -A1 '^Example:' | tail -1; done
+  $ for command in select links text table print outline set unset rename remove unwrap replace fill prepend append before after sanitize; do tl $command --help | grep -A1 '^Example:' | tail -1; done
     tl select -l 'img:not([alt])' *.html    pages with a picture that says nothing
     tl links index.html | grep '^http:'     links that are not encrypted
     tl text -w --in article index.html      what an article says, block by block
     tl table --number 2 index.html          the second table of a page
-    tl print index.html                     the page with each tag closed
+    tl print --pretty index.html            the page, an element on a line
     tl outline index.html                   what a page is made of
-    tl edit 'set 0 lang en' -- index.html   the page with a key at its first node
     tl set -i img loading lazy *.html       pictures that are loaded when seen
     tl unset -i '[style]' style *.html      pages without styles of their own
     tl rename -i center div *.html          elements by a name of today
@@ -944,7 +905,7 @@ Help names each command and each option, and words the lists.
     tl before --html h1 '<p>Draft</p>' a.html    a note before the title of a page
     tl after 'a[href^=http]' ' (elsewhere)' a.html    where links lead out
     tl sanitize --comments comment.html     what of a comment may be shown
-  $ for command in select links text table print outline edit set unset rename remove unwrap replace fill prepend append before after sanitize; do tl $command --help; done | awk 'length > 80'
+  $ for command in select links text table print outline set unset rename remove unwrap replace fill prepend append before after sanitize; do tl $command --help; done | awk 'length > 80'
   $ test "$(tl --version)" = "tl $VERSION"
 
 Where nothing can be written, that is said once, and no more is read.
@@ -1011,31 +972,23 @@ A page longer than the memory, and pages that are long or deep.
   $ tl select -c b deep
   4000
 
-What a print leaves out or moves is said.
+What the page leaves out or writes otherwise stands in its print.
 
   $ printf '<a href=/x>y</a>' | tl print
-  x>y (no-eol)
-  tl: -: some of it is dropped or moved: print and edit read by the grammar of tl, not as browsers do; set, unset, rename and their like change a page in its own bytes (err)
-  $ printf '<!doctype html><p>a' | tl edit 'set 0 id x'
-  <p id="x">a</p> (no-eol)
-  tl: -: some of it is dropped or moved: print and edit read by the grammar of tl, not as browsers do; set, unset, rename and their like change a page in its own bytes (err)
+  <html><head></head><body><a href="/x">y</a></body></html> (no-eol)
   $ printf '<p>a<br/><p  k=\047v\047>b' | tl print
-  <p>a<br><p k="v">b</p></p> (no-eol)
-  $ printf '<p>a</p>' | tl edit 'name 0 b'
-  <b>a</b> (no-eol)
+  <html><head></head><body><p>a<br></p><p k="v">b</p></body></html> (no-eol)
 
-A selector that finds nothing, and names a tag that browsers put in.
+A tag that browsers put in is found.
 
   $ printf '<table><tr><td>a</table>' >rows
   $ tl select -t 'TBODY > tr' rows
-  tl: nothing is found: tbody is found only where a page has its tag, as html, head, body, tbody and colgroup are not put in (err)
-  [1]
+  a
   $ tl select -q 'table > tbody' rows
-  [1]
   $ tl select .tbody rows
   [1]
   $ tl text --in 'body' rows
-  tl: nothing is found: body is found only where a page has its tag, as html, head, body, tbody and colgroup are not put in (err)
-  [1]
+  a
   $ printf '<table><tbody><tr><td>b' | tl select -t 'tbody > tr' rows -
+  rows:a
   -:b

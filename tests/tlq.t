@@ -160,6 +160,43 @@ A page that is no text:
   tlq: not understood (err)
   [2]
 
+Read to the letter, by the grammar of docs/GRAMMAR.md, and printed so: names in their case, references as they stand, a value without
+quotes up to a `/`.
+
+  $ printf '<P>a<p>b' | tlq print
+  <P>a<p>b</p></P> (no-eol)
+  $ printf '<a href=/x>y</a>' | tlq print
+  x>y (no-eol)
+  $ printf '<p>a<br/><p  k=\047v\047>b' | tlq print
+  <p>a<br><p k="v">b</p></p> (no-eol)
+  $ printf '<p>a &amp; b</p>' | tlq text
+  a &amp; b (no-eol)
+  $ printf 'I <3 you' | tlq text
+  I\x20 (esc) (no-eol)
+  $ printf '<!doctype html><p>a' | tlq edit 'set 0 id x'
+  <p id="x">a</p> (no-eol)
+  $ printf '<!doctype html\360\237\230\2000' | tlq text
+  ���0 (no-eol)
+
+Several steps, one after the other; one that has no such node, tag, place or child.
+
+  $ printf '<a>y</a>' | tlq edit 'set 0 href /x y
+  > name 0 b'
+  <b href="/x y">y</b> (no-eol)
+  $ printf '<a>y</a>' | tlq edit 'set 0 b 1
+  > set 0 b 2'
+  <a b="2">y</a> (no-eol)
+  $ printf '<p>a' | tlq edit 'name 0 b
+  > set 1 href /x'
+  tlq: refused (err)
+  [1]
+  $ printf '<p>a' | tlq edit 'pull 0 1'
+  tlq: refused (err)
+  [1]
+  $ printf '<p>a' | tlq edit 'push 0 9'
+  tlq: refused (err)
+  [1]
+
 Words that say no command: nothing is read.
 
   $ printf '<a></a>' | { tlq show 2>/dev/null; cat; }

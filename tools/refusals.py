@@ -12,7 +12,7 @@ PAGE = "page.html"
 # Commands that end with 0, each with its page, which stands in a file and on standard input.
 COMMANDS = (
     (("print",), "<p id=a>b<c>d"),
-    (("edit", "set 0 k v", "name 1 i"), "<p id=a><b>c"),
+    (("print", "--pretty"), "<!doctype html><ul><li>a<li>b</ul>"),
     (("select", "p > b"), "<p>a<b>c&eacute;"),
     (("select", "--json", "p", PAGE), "<p k=v>a<b>c"),
     (("text", "--in", "p", "--encoding", "latin1"), b"<p>\xe9"),

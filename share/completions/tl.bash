@@ -2,7 +2,7 @@
 _tl() {
     local word=${COMP_WORDS[COMP_CWORD]} before=${COMP_WORDS[COMP_CWORD - 1]} options=
     if [ "$COMP_CWORD" -eq 1 ]; then
-        COMPREPLY=($(compgen -W 'select links text table print outline edit set unset rename remove unwrap replace fill prepend append before after sanitize help -h --help -V --version' -- "$word"))
+        COMPREPLY=($(compgen -W 'select links text table print outline set unset rename remove unwrap replace fill prepend append before after sanitize help -h --help -V --version' -- "$word"))
         return
     fi
     case $before in
@@ -10,13 +10,12 @@ _tl() {
         --attribute|--backup|--in|--keys|--link-keys|--links|--max-count|--number|--prefix|--tags|-a|-m|-n) COMPREPLY=(); return ;;
     esac
     case ${COMP_WORDS[1]} in
-        select) options='-1 --first -m --max-count --as-is --raw --encoding -q --quiet -l --files-with-matches -0 --null -a --attribute -t --text -H --inside -n --number -c --count --json --tree --no-name -h --help' ;;
-        links) options='--no-name --as-is --raw --encoding -q --quiet -l --files-with-matches -0 --null -h --help' ;;
-        text) options='--no-name --as-is --raw --encoding -w --whitespace --in -h --help' ;;
-        table) options='--no-name --as-is --raw --encoding -n --number -h --help' ;;
-        print) options='--no-name --encoding -h --help' ;;
-        outline) options='--no-name --as-is --raw --encoding -n --number -h --help' ;;
-        edit) options='--no-name -h --help' ;;
+        select) options='-1 --first -m --max-count --encoding -q --quiet -l --files-with-matches -0 --null -a --attribute -t --text -H --inside -n --number -c --count --json --tree --no-name -h --help' ;;
+        links) options='--no-name --encoding -q --quiet -l --files-with-matches -0 --null -h --help' ;;
+        text) options='--no-name --encoding -w --whitespace --in -h --help' ;;
+        table) options='--no-name --encoding -n --number -h --help' ;;
+        print) options='--no-name --encoding --pretty -h --help' ;;
+        outline) options='--no-name --encoding -n --number -h --help' ;;
         set) options='-i --in-place --backup --dry-run -h --help' ;;
         unset) options='-i --in-place --backup --dry-run -h --help' ;;
         rename) options='-i --in-place --backup --dry-run -h --help' ;;
@@ -28,8 +27,8 @@ _tl() {
         append) options='--html -i --in-place --backup --dry-run -h --help' ;;
         before) options='--html -i --in-place --backup --dry-run -h --help' ;;
         after) options='--html -i --in-place --backup --dry-run -h --help' ;;
-        sanitize) options='--no-name --comments --documents --tags --keys --link-keys --links --prefix --relative-links --nofollow-links --policy --as-is --encoding -h --help' ;;
-        help) COMPREPLY=($(compgen -W 'select links text table print outline edit set unset rename remove unwrap replace fill prepend append before after sanitize' -- "$word")); return ;;
+        sanitize) options='--no-name --comments --documents --tags --keys --link-keys --links --prefix --relative-links --nofollow-links --policy --encoding -h --help' ;;
+        help) COMPREPLY=($(compgen -W 'select links text table print outline set unset rename remove unwrap replace fill prepend append before after sanitize' -- "$word")); return ;;
     esac
     case $word in
         -*) COMPREPLY=($(compgen -W "$options" -- "$word")) ;;

@@ -1,5 +1,5 @@
--- Pages that are read as browsers read them, or as they are.
-use Rattle.std.proofs.Common.{◌≡◌, ℕ, Bool, true, false, ◌<◌, ◌≤◌, List, length, refl, ap, sym, arith, inl, inr, if◌then◌else◌}
+-- Pages that are read by their forms.
+use Rattle.std.proofs.Common.{◌≡◌, ℕ, Bool, true, false, ◌<◌, ◌≤◌, List, length, refl, ap, arith, inl, inr, if◌then◌else◌}
 use Rattle.std.specs.Prelude.{nat_le}
 use Rattle.std.proofs.lemmas.Bool.{cases_Bool, le-leb, leb-true}
 use Rattle.tl_spec.specs.Lex.ByteClass.{largest_u32}
@@ -11,22 +11,16 @@ use Rattle.tl_page.specs.Page.{IsPage, is_page}
 use Rattle.tl_page.specs.declared.failure.Failure.{Failure}
 use Rattle.tl_page.specs.declared.failure.Failure.TheVariants.{Refused, NotUnderstood, OutOfMemory, Fault}
 use Rattle.tl_page.proofs.Pages.{is_page-IsPage, is_page-true, outcome-no_page}
-use Rattle.tl_program.specs.Steps.{changes_in}
 use Rattle.tl_safe.specs.Filter.{trees_of}
 use Rattle.tl_safe.specs.KeptFitted.{kept_fitted}
-use Rattle.tl_safe.specs.Policies.{lists_of}
-use Rattle.tl_cli.specs.Findings.{Finding, whole}
-use Rattle.tl_cli.specs.Task.{answer_of, edit_of, form_in, outcome_read, task_output}
-use Rattle.tl_cli.specs.declared.reading.Reading.TheVariants.{Browser, AsIs}
-use Rattle.tl_cli.specs.declared.task.Task.{Task}
-use Rattle.tl_cli.specs.declared.task.Task.TheVariants.{Ask, Edit, Sanitize}
+use Rattle.tl_safe.specs.Lists.{ListedWords}
+use Rattle.tl_answers.specs.Findings.{Finding, whole}
+use Rattle.tl_cli.specs.Task.{form_in, outcome_read, safe_of}
 
--- what no page is makes no task anything of
-pub no_page_made : (task : Task) (ns end page : List ℕ) → (IsPage page → ⊥) → task_output task ns end page ≡ not_understood
-no_page_made (Ask question) ns end page lacks = outcome-no_page page (answer_of question ns end) lacks
-no_page_made (Edit steps) ns end page lacks = outcome-no_page page (edit_of (changes_in steps.items)) lacks
-no_page_made (Sanitize policy) ns end page lacks =
-    let made : Document → Outcome Finding = λ d. success (whole (print (kept_fitted (lists_of policy) (trees_of page)))) in
+-- of what is no page nothing is made safe
+pub no_page_made : (lists : ListedWords) (page : List ℕ) → (IsPage page → ⊥) → safe_of lists page ≡ not_understood
+no_page_made lists page lacks =
+    let made : Document → Outcome Finding = λ d. success (whole (print (kept_fitted lists (trees_of page)))) in
     outcome-no_page page made lacks
 
 module _ (page : List ℕ) where
@@ -52,23 +46,7 @@ module _ (page : List ℕ) where
     | inr n ↦ rw n refl
   ]
 
-  form_same : (b c : Bool) (form : List ℕ) → (if b then (if c then success (html_form page) else not_understood) else not_understood) ≡ success form → html_form page ≡ form
-  form_same true true form e = cc
-  form_same true false form e = absurd (cc)
-  form_same false c form e = absurd (cc)
-
-  -- what is read as the form is the form
-  pub form_is : (form : List ℕ) → form_in page ≡ success form → html_form page ≡ form
-  form_is form e = form_same (is_page page) (nat_le (length (html_form page)) largest_u32) form e
-
   module _ {X : Type 0} (make : List ℕ → Outcome X) (none : (other : List ℕ) → (IsPage other → ⊥) → make other ≡ not_understood) where
-    -- a page that is read as it is
-    pub read_as_is : outcome_read AsIs make page ≡ make page
-    read_as_is = elim (cases_Bool (is_page page)) [
-      | inl y ↦ rw y refl
-      | inr n ↦ rw n (sym (none page (no_page n)))
-    ]
-
     form_cases : (b c : Bool) (form : List ℕ) → (if b then (if c then success (html_form page) else not_understood) else not_understood) ≡ success form
         → (if b then make (html_form page) else not_understood) ≡ make form
     form_cases true true form e = let is : html_form page ≡ form = cc in ap make is
@@ -76,7 +54,7 @@ module _ (page : List ℕ) where
     form_cases false c form e = absurd (cc)
 
     -- a page whose form is read
-    pub read_form : (form : List ℕ) → form_in page ≡ success form → outcome_read Browser make page ≡ make form
+    pub read_form : (form : List ℕ) → form_in page ≡ success form → outcome_read make page ≡ make form
     read_form form e = form_cases (is_page page) (nat_le (length (html_form page)) largest_u32) form e
 
     long_none : nat_le (length (html_form page)) largest_u32 ≡ false → make (html_form page) ≡ not_understood
@@ -95,5 +73,5 @@ module _ (page : List ℕ) where
     unread_cases false c long NotUnderstood fails = refl
 
     -- and one that is not read
-    pub unread_form : (failure : Failure) → Fails (form_in page) failure → Fails (outcome_read Browser make page) failure
+    pub unread_form : (failure : Failure) → Fails (form_in page) failure → Fails (outcome_read make page) failure
     unread_form failure fails = unread_cases (is_page page) (nat_le (length (html_form page)) largest_u32) long_none failure fails

@@ -1,15 +1,12 @@
 -- Why nothing is made.
 use Rattle.tl_cli.specs.declared.args.UsageError.{UsageError}
-use Rattle.tl_cli.specs.declared.args.UsageError.TheVariants.{Clap, NoCommand, EmptyStep, LinesOfSteps, NoStep, NoNumber, NoTable, NoSelector, NoKey, NoName, NoFile, NoSuffix, NoEncoding, OutOfMemory}
+use Rattle.tl_cli.specs.declared.args.UsageError.TheVariants.{Clap, NoCommand, NoNumber, NoTable, NoSelector, NoKey, NoName, NoFile, NoSuffix, NoEncoding, OutOfMemory}
 
--- a word of `edit` is not one step, that of `select` no selector or number, a key or a name can't
--- be written, standard input has no file, a suffix is empty, or a label is of no encoding
+-- a word is no selector or number, a key or a name can't be written, standard input has no file, a
+-- suffix is empty, or a label is of no encoding
 abbrev pub IsWrongWord : UsageError → Type 0
 IsWrongWord (Clap error) = ⊥
 IsWrongWord NoCommand = ⊥
-IsWrongWord EmptyStep = Unit {0}
-IsWrongWord (LinesOfSteps word) = Unit {0}
-IsWrongWord (NoStep word) = Unit {0}
 IsWrongWord (NoNumber word) = Unit {0}
 IsWrongWord (NoTable word) = Unit {0}
 IsWrongWord (NoSelector error text) = Unit {0}

@@ -7,20 +7,17 @@ ghost use Rattle.tl_cli.specs.declared.args.UsageError.TheVariants.{OutOfMemory}
 use crate::edit_words;
 use crate::edit_words::patching;
 use crate::patching::Patching;
-use crate::question::Question;
-use crate::reading::Reading;
 use crate::selected::{Selected, Wanted};
 use crate::task::Task;
 use crate::terminal::Terminal;
 use clap::error::ErrorKind;
 use clap::{ArgMatches, Error};
-use std::alloc::{AllocError, AllocFailed, Global};
+use std::alloc::{AllocError, Global};
+use tl_answers::Question;
 use tl_commands::{Verb, program};
 use tl_css::{Selector, SelectorError, parse};
 use tl_encoding::Encoding;
-use tl_extract::{OutlineFormat, Spelling};
 use tl_page::VERSION;
-use tl_program::script::{Step, steps};
 use tl_safe::{ListTexts, Lists};
 
 /// What is written of pages.
@@ -45,8 +42,6 @@ pub struct Pages<'w> {
     pub has_names: bool,
     /// What is written of them.
     pub writing: Writing,
-    /// How they are read.
-    pub reading: Reading,
     /// What they are in, if it is said.
     pub encoding: Option<Encoding>,
     pub terminal: Terminal,
@@ -93,12 +88,6 @@ pub enum UsageError<'w> {
     Clap(Error),
     /// They name no command.
     NoCommand,
-    /// A word of `edit` that is empty.
-    EmptyStep,
-    /// One of several lines.
-    LinesOfSteps(&'w str),
-    /// One that says no step.
-    NoStep(&'w str),
     /// A text that can be written as no key of a tag.
     NoKey(&'w str),
     /// One that can be written as no name of a tag.
@@ -126,14 +115,6 @@ impl From<AllocError> for UsageError<'_> {
     }
 }
 
-impl<T: Drop> From<AllocFailed<T>> for UsageError<'_> {
-    ghost from_gives = { λ _ usage_error. usage_error ≡ OutOfMemory };
-
-    fn from(_: AllocFailed<T>) -> Self {
-        UsageError::OutOfMemory
-    }
-}
-
 impl From<Error> for UsageError<'_> {
     ghost from_gives = { λ error usage_error. kind_of error ≡ NoMemory →
         usage_error ≡ OutOfMemory };
@@ -143,24 +124,6 @@ impl From<Error> for UsageError<'_> {
             ErrorKind::OutOfMemory => UsageError::OutOfMemory,
             _ => UsageError::Clap(error),
         }
-    }
-}
-
-// How a command reads pages.
-fn reading(verb: Verb, matches: &ArgMatches<'_>) -> Reading {
-    match verb {
-        Verb::Print | Verb::Edit => Reading::AsIs,
-        _ if matches.get_flag("as-is") => Reading::AsIs,
-        _ => Reading::Browser,
-    }
-}
-
-// How names, values and texts are written. What is read as it is is written so.
-fn spelling(matches: &ArgMatches<'_>) -> Spelling {
-    if matches.get_flag("as-is") || matches.get_flag("raw") {
-        Spelling::Raw
-    } else {
-        Spelling::Decoded
     }
 }
 
@@ -235,8 +198,6 @@ fn selected<'w>(alloc: Global, matches: &ArgMatches<'w>) -> Result<Selected<'w>,
         key: matches.get_str("attribute").unwrap_or(""),
         wanted: wanted(matches),
         most: most(matches)?,
-        reading: reading(Verb::Select, matches),
-        spelling: spelling(matches),
     })
 }
 
@@ -247,7 +208,7 @@ fn text_inside<'w>(
     matches: &ArgMatches<'w>,
 ) -> Result<Selected<'w>, UsageError<'w>> {
     let wanted = if matches.get_flag("whitespace") {
-        Wanted::Lines
+        Wanted::Readable
     } else {
         Wanted::Text
     };
@@ -256,8 +217,6 @@ fn text_inside<'w>(
         key: "",
         wanted,
         most: None,
-        reading: reading(Verb::Text, matches),
-        spelling: spelling(matches),
     })
 }
 
@@ -267,19 +226,11 @@ fn text<'w>(alloc: Global, matches: &ArgMatches<'w>) -> Result<Action<'w>, Usage
         return Ok(Action::Select(text_inside(alloc, text, matches)?));
     }
     let question = if matches.get_flag("whitespace") {
-        Question::Readable(spelling(matches))
+        Question::Readable
     } else {
-        Question::Text(spelling(matches))
+        Question::Text
     };
     Ok(Action::Task(Task::Ask(question)))
-}
-
-// How an outline is written.
-fn outline_format(matches: &ArgMatches<'_>) -> OutlineFormat {
-    OutlineFormat {
-        spelling: spelling(matches),
-        has_numbers: matches.get_flag("number"),
-    }
 }
 
 // Which table is meant, from 0.
@@ -303,36 +254,6 @@ fn values<'w>(
         Some(values) => Vec::from_slice(alloc, values),
         None => Ok(Vec::new(alloc)),
     }
-}
-
-// Adds the step that a word says.
-fn add_step<'w>(
-    alloc: Global,
-    all: &mut Vec<Step<'w>>,
-    word: &'w str,
-) -> Result<(), UsageError<'w>> {
-    if word.is_empty() {
-        return Err(UsageError::EmptyStep);
-    }
-    if word.contains('\n') {
-        return Err(UsageError::LinesOfSteps(word));
-    }
-    let Some(said) = steps(alloc, word)? else {
-        return Err(UsageError::NoStep(word));
-    };
-    for step in said {
-        all.push(step)?;
-    }
-    Ok(())
-}
-
-// The steps that words say, one each.
-fn edit<'w>(alloc: Global, words: &[&'w str]) -> Result<Task<'w>, UsageError<'w>> {
-    let mut all = Vec::new(alloc);
-    for word in words {
-        add_step(alloc, &mut all, word)?;
-    }
-    Ok(Task::Edit(all))
 }
 
 // The lists that count where none are said.
@@ -368,11 +289,12 @@ fn action_of<'w>(
 ) -> Result<Action<'w>, UsageError<'w>> {
     let question = match verb {
         Verb::Select => return Ok(Action::Select(selected(alloc, matches)?)),
-        Verb::Links => Question::Links(spelling(matches)),
+        Verb::Links => Question::Links,
         Verb::Text => return text(alloc, matches),
-        Verb::Table => Question::Table(table_number(matches)?, spelling(matches)),
+        Verb::Table => Question::Table(table_number(matches)?),
+        Verb::Print if matches.get_flag("pretty") => Question::PrettyPrint,
         Verb::Print => Question::Print,
-        Verb::Outline => Question::Outline(outline_format(matches)),
+        Verb::Outline => Question::Outline(matches.get_flag("number")),
         Verb::Set => {
             let edit = edit_words::set(alloc, matches)?;
             return Ok(Action::Patch(patching(alloc, edit, matches)?));
@@ -385,18 +307,14 @@ fn action_of<'w>(
             let edit = edit_words::element(alloc, own, matches)?;
             return Ok(Action::Patch(patching(alloc, edit, matches)?));
         }
-        Verb::Edit => return Ok(Action::Task(edit(alloc, &values(alloc, matches, "STEP")?)?)),
         Verb::Sanitize if matches.get_flag("policy") => return Ok(Action::Policy(lists(matches))),
         Verb::Sanitize => return Ok(Action::Safe(lists(matches))),
     };
     Ok(Action::Task(Task::Ask(question)))
 }
 
-// What pages are in, if it is said. What is edited is UTF-8.
-fn encoding<'w>(verb: Verb, matches: &ArgMatches<'w>) -> Result<Option<Encoding>, UsageError<'w>> {
-    if verb == Verb::Edit {
-        return Ok(Some(Encoding::Utf8));
-    }
+// What pages are in, if it is said.
+fn encoding<'w>(matches: &ArgMatches<'w>) -> Result<Option<Encoding>, UsageError<'w>> {
     let Some(label) = matches.get_str("encoding") else {
         return Ok(None);
     };
@@ -409,7 +327,6 @@ fn encoding<'w>(verb: Verb, matches: &ArgMatches<'w>) -> Result<Option<Encoding>
 // The pages of a command.
 fn pages_of<'w>(
     alloc: Global,
-    verb: Verb,
     matches: &ArgMatches<'w>,
     terminal: Terminal,
 ) -> Result<Pages<'w>, UsageError<'w>> {
@@ -418,8 +335,7 @@ fn pages_of<'w>(
         ends_with_zero: matches.get_flag("null"),
         has_names: !matches.get_flag("no-name"),
         writing: writing_of(matches),
-        reading: reading(verb, matches),
-        encoding: encoding(verb, matches)?,
+        encoding: encoding(matches)?,
         terminal,
     })
 }
@@ -439,6 +355,6 @@ pub fn read<'w>(
     };
     Ok(Args {
         action: action_of(alloc, verb, own)?,
-        pages: pages_of(alloc, verb, own, terminal)?,
+        pages: pages_of(alloc, own, terminal)?,
     })
 }

@@ -7,35 +7,26 @@ ghost use Rattle.tl_cli.specs.declared.args.UsageError.TheVariants.{OutOfMemory}
 ghost use Rattle.tl_cli.specs.UsageErrors.{IsWrongWord};
 
 mod args;
-mod csv_lines;
-mod dropped;
 mod edit_words;
 mod edits;
 mod filename;
 mod implied;
 mod in_place;
 mod job;
-mod lines;
 mod misread;
-mod output;
 mod pages;
 mod patching;
-mod question;
-mod reading;
-mod refusal;
 mod reports;
 mod selected;
-mod selection;
 mod task;
 mod terminal;
 
-use args::{Action, Pages, UsageError, Writing, read};
+use args::{Action, Pages, UsageError, read};
 use clap::Error;
-use implied::report_implied;
 use job::Job;
 use pages::{process_pages, report_failure, unwritten_status, write};
 use patching::patch_pages;
-use reports::{NOTHING, exit_status};
+use reports::exit_status;
 use selected::Selected;
 use std::alloc::AllocError;
 use std::env;
@@ -116,15 +107,6 @@ fn report_usage_error(rt: &HostRuntime, usage_error: &UsageError<'_>) -> Result<
         UsageError::Clap(error) => return print_clap_error(rt, error),
         UsageError::OutOfMemory => return Err(report_failure(rt, "words", Failure::OutOfMemory)),
         UsageError::NoCommand => return Err(report_failure(rt, "words", Failure::NotUnderstood)),
-        UsageError::EmptyStep => {
-            let _ = eprintln!(rt; "tl: no step: an empty word");
-        }
-        UsageError::LinesOfSteps(word) => {
-            let _ = eprintln!(rt; "tl: no step, but several lines: {word}");
-        }
-        UsageError::NoStep(word) => {
-            let _ = eprintln!(rt; "tl: no step: {word}");
-        }
         UsageError::NoNumber(word) => {
             let _ = eprintln!(rt; "tl: no number of nodes: {word}");
         }
@@ -154,11 +136,11 @@ fn report_usage_error(rt: &HostRuntime, usage_error: &UsageError<'_>) -> Result<
     Err(Failure::NotUnderstood)
 }
 
-// The key of the values that are selected, as it stands in the pages that are read.
+// The key of the values that are selected, in lower case.
 fn key_of(rt: &HostRuntime, selected: &Selected<'_>) -> Result<String, Failure>
     ensures { IfErr result (λ failure. failure ≡ NoMemory) }
 {
-    match selected.key(rt.alloc()) {
+    match selected.lower_key(rt.alloc()) {
         Ok(key) => Ok(key),
         Err(_) => Err(report_failure(rt, "key", Failure::OutOfMemory)),
     }
@@ -174,11 +156,7 @@ fn process(rt: &HostRuntime, task: &Task<'_>, pages: &Pages<'_>) -> Result<u8, F
 fn select(rt: &HostRuntime, selected: &Selected<'_>, pages: &Pages<'_>) -> Result<u8, Failure> {
     let key = key_of(rt, selected)?;
     let job = Job::Select(selected, key.as_str());
-    let status = process_pages(rt, &job, pages)?;
-    if status == NOTHING && pages.writing != Writing::Nothing {
-        report_implied(rt, &selected.selector);
-    }
-    Ok(status)
+    process_pages(rt, &job, pages)
 }
 
 // The lists that texts say.

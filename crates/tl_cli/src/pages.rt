@@ -6,18 +6,15 @@ ghost use Rattle.tl_cli.specs.Reports.{AreReports};
 ghost use Rattle.tl_cli.specs.declared.reports.Answer.TheVariants.{Failed};
 
 use crate::args::{Pages, Writing};
-use crate::dropped::leaves_out;
 use crate::filename::with_prefix;
 use crate::job::Job;
-use crate::output::Output;
-use crate::question::Question;
-use crate::refusal::report_refusal;
 use crate::reports::{Answer, Report, Tally, status_of};
-use crate::task::{Task, execute};
+use crate::task::Unmade;
 use std::alloc::{AllocError, Global};
 use std::fs::File;
 use std::io::{ErrorKind, Read, Write};
 use std::{fmt, io};
+use tl_answers::Output;
 use tl_encoding::{DecodeError, Encoding, EncodingError, decode, encoding_of};
 use tl_page::{Failure, text};
 
@@ -99,21 +96,21 @@ pub fn unwritten_status(rt: &HostRuntime, error: &io::Error) -> u8 {
     Tally::new().with_answer(unwritten(rt, error)).status(false)
 }
 
-// A text with the name of its file before each line, where there are several.
+// Bytes with the name of their file before each line, where there are several.
 fn named_text(
     rt: &HostRuntime,
     job: &Job<'_, '_>,
     pages: &Pages<'_>,
     file: &str,
-    text: String,
+    bytes: Vec<u8>,
 ) -> Result<Vec<u8>, Failure> {
     if !pages.are_named() || job.says_names() {
-        return Ok(text.into_bytes());
+        return Ok(bytes);
     }
     let [start, middle, end_of_name] = pages.terminal.name_colors();
     let name = format!(in rt.alloc(); "{start}{file}{middle}:{end_of_name}")?;
     let end = if pages.ends_with_zero { 0 } else { b'\n' };
-    Ok(with_prefix(rt.alloc(), name.as_str(), end, text.as_bytes())?)
+    Ok(with_prefix(rt.alloc(), name.as_str(), end, &bytes)?)
 }
 
 // What is written of a page.
@@ -125,7 +122,7 @@ fn page_output(
     output: Output,
 ) -> Result<Vec<u8>, Failure> {
     match pages.writing {
-        Writing::Answers => named_text(rt, job, pages, file, output.text),
+        Writing::Answers => named_text(rt, job, pages, file, output.bytes),
         Writing::Names if output.is_found => {
             let end = pages.end();
             let [start, _, end_of_name] = pages.terminal.name_colors();
@@ -194,39 +191,36 @@ fn too_long(rt: &HostRuntime, file: &str, page: &[u8]) -> Answer
     }
 }
 
-// Says on standard error why the text of a page is refused.
-fn refused(rt: &HostRuntime, job: &Job<'_, '_>, file: &str, text: &[u8]) {
-    match job.steps() {
-        Some(steps) => report_refusal(rt, file, steps, text),
-        None => report(rt, file, Failure::Refused),
+// Why the tree of a page isn't read.
+#[derive(Clone, Copy)]
+enum UnreadTree {
+    OutOfProportion(usize),
+    TooLarge,
+}
+
+impl fmt::Display for UnreadTree {
+    fn fmt<W: fmt::Write>(&self, f: &mut fmt::Formatter<W>) -> fmt::Result {
+        match self {
+            UnreadTree::OutOfProportion(place) => {
+                write!(f, "its tree is out of proportion at byte {place}")
+            }
+            UnreadTree::TooLarge => f.write_str("its tree is too large"),
+        }
     }
 }
 
-// Says on standard error that a print leaves out something of the page.
-fn report_dropped(
-    rt: &HostRuntime,
-    job: &Job<'_, '_>,
-    pages: &Pages<'_>,
-    file: &str,
-    text: &[u8],
-) -> Result<(), Failure> {
-    if !job.prints() {
-        return Ok(());
+// Says on standard error why nothing is made of a page, but for what fails whatever it says.
+fn unmade(rt: &HostRuntime, file: &str, text: &[u8], why: Unmade) -> Result<Answer, Failure> {
+    match why {
+        Unmade::Failed(Failure::NotUnderstood) => Ok(too_long(rt, file, text)),
+        Unmade::Failed(failure) => Err(failure),
+        Unmade::OutOfProportion(place) => Ok(not_understood(
+            rt,
+            file,
+            &UnreadTree::OutOfProportion(place),
+        )),
+        Unmade::TooLarge => Ok(not_understood(rt, file, &UnreadTree::TooLarge)),
     }
-    let print = execute(
-        rt.alloc(),
-        &Task::Ask(Question::Print),
-        pages.reading,
-        "",
-        text,
-    )?;
-    if leaves_out(print.text.as_bytes(), text) {
-        pages.terminal.clear(rt);
-        let _ = eprintln!(rt;
-            "tl: {file}: some of it is dropped or moved: print and edit read by the grammar of tl, not as browsers do; set, unset, rename and their like change a page in its own bytes"
-        );
-    }
-    Ok(())
 }
 
 // What comes of the text of a page.
@@ -239,18 +233,11 @@ fn process_text(
 ) -> Result<Answer, Failure> {
     let output = match job.execute(rt.alloc(), pages, file, text) {
         Ok(output) => output,
-        Err(Failure::Refused) => {
+        Err(why) => {
             pages.terminal.clear(rt);
-            refused(rt, job, file, text);
-            return Ok(Answer::Failed(Failure::Refused));
+            return unmade(rt, file, text, why);
         }
-        Err(Failure::NotUnderstood) => {
-            pages.terminal.clear(rt);
-            return Ok(too_long(rt, file, text));
-        }
-        Err(failure) => return Err(failure),
     };
-    report_dropped(rt, job, pages, file, text)?;
     let is_found = output.is_found;
     let written = page_output(rt, job, pages, file, output)?;
     pages.terminal.clear(rt);

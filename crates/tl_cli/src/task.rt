@@ -1,94 +1,87 @@
 //! What is made of a page.
-ghost use Rattle.std.specs.Prelude.{◌≡◌, ◌<◌, ℕ, Err, IfOk, IsUtf8, List, length};
-ghost use Rattle.tl_spec.specs.Tree.Document.{document};
+ghost use Rattle.std.specs.Prelude.{◌≡◌, ◌<◌, Err, IfErr, IfOk, IsUtf8, List, length, ℕ};
+ghost use Rattle.tl_answers.specs.Answers.{AreSelected};
+ghost use Rattle.tl_answers.specs.Findings.{finding_of};
+ghost use Rattle.tl_answers.specs.Pages.{IsAnswered, searched};
+ghost use Rattle.tl_cli.specs.Task.{AreSelectedIn, IsMade, IsUnanswered, IsUnmade, form_in, safe_in, safe_of, unmade_of};
+ghost use Rattle.tl_cli.specs.declared.task.Unmade.TheVariants.{Failed};
 ghost use Rattle.tl_page.specs.Outcome.{Gives};
-ghost use Rattle.tl.specs.View.{document_of};
-ghost use Rattle.tl_page.specs.Page.{document_in, outcome_in};
 ghost use Rattle.tl_page.specs.declared.failure.Failure.TheVariants.{NotUnderstood};
-ghost use Rattle.tl_program.specs.Steps.{changes_in};
 ghost use Rattle.tl_safe.specs.Policies.{lists_of};
-ghost use Rattle.tl_cli.specs.Findings.{finding_of};
-ghost use Rattle.tl_cli.specs.Task.{AreSelected, AreSelectedIn, answer_of, edit_of, form_in, outcome_read, page_of, safe_of, task_output};
-ghost use Rattle.tl_cli.specs.declared.reading.Reading.TheVariants.{Browser};
 
-use crate::output::Output;
-use crate::question::{Question, answer};
-use crate::reading::Reading;
 use std::alloc::Global;
-use tl::ParserOptions;
-use tl_css_select::known_forest::FreshDocument;
+use tl_answers::{Output, Question, answer_of_page};
 use tl_html::{NormalizeError, normalize_bytes};
-use tl_page::{Failure, read, text};
-use tl_program::program::edit_and_print;
-use tl_program::script::Step;
+use tl_page::{Failure, PageError, text};
 use tl_safe::{Policy, sanitize};
+use tl_tree::ReadError;
 
 /// What is made of each page.
 #[derive(Drop)]
 pub enum Task<'w> {
-    /// What is answered of its document.
+    /// What is answered of its tree.
     Ask(Question<'w>),
-    /// Its print after steps.
-    Edit(Vec<Step<'w>>),
     /// A safe page.
     Sanitize(Policy<'w>),
 }
 
-// The document of a page, as it was read, which is a forest.
-fn read_fresh(alloc: Global, page: &[u8]) -> Result<FreshDocument<'_>, Failure>
-    ensures gives { Gives document_of (document_in page.now) result }
-    ensures document { IfOk result (λ d. document_of d ≡ document page.now) }
-    ensures no_text { ¬ (IsUtf8 page.now) → result ≡ Err NotUnderstood }
-    ensures long { u32.MAX < length page.now → result ≡ Err NotUnderstood }
-{
-    Ok(FreshDocument::parse(alloc, text(page)?, ParserOptions::new())?)
+/// Why nothing is made of a page.
+#[derive(Clone, Copy, PartialEq, Eq)]
+pub enum Unmade {
+    /// It is no text, or it or its form is too long; or memory ran out.
+    Failed(Failure),
+    /// Its tree is out of proportion, first so at this byte.
+    OutOfProportion(usize),
+    /// Its tree is too large.
+    TooLarge,
 }
 
-// What is answered of the document of a page.
-#[tactic(auto, using(tl_page::proofs::Pages::pages))]
-fn ask(alloc: Global, question: &Question<'_>, end: &str, page: &[u8]) -> Result<Output, Failure>
-    ensures made { (ns : List ℕ) → AreSelected question.now (document page.now).nodes ns →
-        Gives finding_of (outcome_in (answer_of question.now ns end.now) page.now) result }
-    ensures no_text { ¬ (IsUtf8 page.now) → result ≡ Err NotUnderstood }
-    ensures long { u32.MAX < length page.now → result ≡ Err NotUnderstood }
-{
-    let document = read_fresh(alloc, page)?;
-    answer(alloc, question, end, &document.forest())
+impl From<Failure> for Unmade {
+    ghost from_gives = { λ failure unmade. unmade ≡ Failed failure };
+
+    fn from(failure: Failure) -> Self {
+        Unmade::Failed(failure)
+    }
 }
 
-// The print of a page after steps.
-#[tactic(auto, using(tl_page::proofs::Pages::pages))]
-fn edit(alloc: Global, steps: &[Step<'_>], page: &[u8]) -> Result<Output, Failure>
-    ensures made { Gives finding_of (outcome_in (edit_of (changes_in steps.now)) page.now) result }
-    ensures no_text { ¬ (IsUtf8 page.now) → result ≡ Err NotUnderstood }
-    ensures long { u32.MAX < length page.now → result ≡ Err NotUnderstood }
-{
-    let mut document = read(alloc, page, ParserOptions::new())?;
-    Ok(Output::whole(edit_and_print(alloc, &mut document, steps)?))
+impl From<PageError> for Unmade {
+    ghost from_gives = { λ error unmade. unmade ≡ Failed error.failure };
+
+    fn from(error: PageError) -> Self {
+        Unmade::Failed(error.failure)
+    }
 }
 
-// A page made safe.
-fn safe_page(alloc: Global, policy: &Policy<'_>, page: &[u8]) -> Result<Output, Failure>
+impl From<ReadError> for Unmade {
+    ghost from_gives = { λ error unmade. unmade ≡ unmade_of error };
+
+    fn from(error: ReadError) -> Self {
+        match error {
+            ReadError::OutOfMemory => Unmade::Failed(Failure::OutOfMemory),
+            ReadError::OutOfProportion { at } => Unmade::OutOfProportion(at),
+            ReadError::TooLarge => Unmade::TooLarge,
+        }
+    }
+}
+
+// What is answered of a page.
+fn ask(alloc: Global, question: &Question<'_>, end: &str, page: &[u8]) -> Result<Output, Unmade>
+    ensures made { (ns : List ℕ) → AreSelected question.now (searched page.now) ns → IfOk result
+        (λ output. IsAnswered question.now ns end.now page.now (finding_of output)) }
+    ensures told { IfErr result (IsUnanswered page.now) }
+    ensures no_text { ¬ (IsUtf8 page.now) → result ≡ Err (Failed NotUnderstood) }
+    ensures long { u32.MAX < length page.now → result ≡ Err (Failed NotUnderstood) }
+{
+    let page = text(page)?;
+    Ok(answer_of_page(alloc, question, end, page.as_bytes())?)
+}
+
+// A text made safe.
+fn safe_text(alloc: Global, policy: &Policy<'_>, page: &[u8]) -> Result<Output, Failure>
     ensures made { Gives finding_of (safe_of (lists_of policy.now) page.now) result }
-    ensures no_text { ¬ (IsUtf8 page.now) → result ≡ Err NotUnderstood }
-    ensures long { u32.MAX < length page.now → result ≡ Err NotUnderstood }
 {
     let text = text(page)?;
-    Ok(Output::whole(sanitize(alloc, policy, text)?))
-}
-
-// What a task makes of bytes.
-fn make(alloc: Global, task: &Task<'_>, end: &str, page: &[u8]) -> Result<Output, Failure>
-    ensures made { (ns : List ℕ) → AreSelectedIn task.now page.now ns →
-        Gives finding_of (task_output task.now ns end.now page.now) result }
-    ensures no_text { ¬ (IsUtf8 page.now) → result ≡ Err NotUnderstood }
-    ensures long { u32.MAX < length page.now → result ≡ Err NotUnderstood }
-{
-    match task {
-        Task::Ask(question) => ask(alloc, question, end, page),
-        Task::Edit(steps) => edit(alloc, steps, page),
-        Task::Sanitize(policy) => safe_page(alloc, policy, page),
-    }
+    Ok(Output::whole(sanitize(alloc, policy, text)?.into_bytes()))
 }
 
 // The form of a page. One that is too long is not understood, as a page is.
@@ -105,38 +98,31 @@ fn form_of(alloc: Global, page: &[u8]) -> Result<Vec<u8>, Failure>
     }
 }
 
-// What a task makes of the form of a page.
-fn make_of_form(alloc: Global, task: &Task<'_>, end: &str, page: &[u8]) -> Result<Output, Failure>
-    ensures made { (ns : List ℕ) → AreSelectedIn task.now (page_of Browser page.now) ns →
-        let make = task_output task.now ns end.now in
-        Gives finding_of (outcome_read Browser make page.now) result }
+// A page made safe, by its form.
+fn safe_page(alloc: Global, policy: &Policy<'_>, page: &[u8]) -> Result<Output, Failure>
+    ensures made { Gives finding_of (safe_in (lists_of policy.now) page.now) result }
     ensures no_text { ¬ (IsUtf8 page.now) → result ≡ Err NotUnderstood }
     ensures long { u32.MAX < length page.now → result ≡ Err NotUnderstood }
 {
     let form = form_of(alloc, page)?;
-    make(alloc, task, end, form.as_slice())
+    safe_text(alloc, policy, form.as_slice())
 }
 
-/// What a task makes of a page that is read so, where what is listed ends with `end`. A page whose
-/// form is longer than 4294967295 bytes is not understood, as one that is itself so long.
-pub fn execute(
-    alloc: Global,
-    task: &Task<'_>,
-    reading: Reading,
-    end: &str,
-    page: &[u8],
-) -> Result<Output, Failure>
+/// What a task makes of a page, where what is listed ends with `end`. Of a page whose tree is out
+/// of proportion nothing is answered; one whose form is longer than 4294967295 bytes isn't made
+/// safe.
+pub fn execute(alloc: Global, task: &Task<'_>, end: &str, page: &[u8]) -> Result<Output, Unmade>
     // By the numbers of the nodes where its selector holds, if it has one: these are one list.
-    ensures made { (ns : List ℕ) → AreSelectedIn task.now (page_of reading page.now) ns →
-        let make = task_output task.now ns end.now in
-        Gives finding_of (outcome_read reading make page.now) result }
+    ensures made { (ns : List ℕ) → AreSelectedIn task.now page.now ns → IfOk result
+        (λ output. IsMade task.now ns end.now page.now (finding_of output)) }
+    ensures told { IfErr result (IsUnmade task.now page.now) }
 
     // No want of memory hides that a page is no text, or too long.
-    ensures no_text { ¬ (IsUtf8 page.now) → result ≡ Err NotUnderstood }
-    ensures long { u32.MAX < length page.now → result ≡ Err NotUnderstood }
+    ensures no_text { ¬ (IsUtf8 page.now) → result ≡ Err (Failed NotUnderstood) }
+    ensures long { u32.MAX < length page.now → result ≡ Err (Failed NotUnderstood) }
 {
-    match reading {
-        Reading::Browser => make_of_form(alloc, task, end, page),
-        Reading::AsIs => make(alloc, task, end, page),
+    match task {
+        Task::Ask(question) => ask(alloc, question, end, page),
+        Task::Sanitize(policy) => Ok(safe_page(alloc, policy, page)?),
     }
 }

@@ -20,22 +20,6 @@ pub const NO_NAME: Flag = Flag {
     excludes: &[],
 };
 
-const AS_IS: Flag = Flag {
-    name: "as-is",
-    short: None,
-    value: None,
-    help: "Read by the grammar of tl, and write what stands",
-    excludes: &[],
-};
-
-const RAW: Flag = Flag {
-    name: "raw",
-    short: None,
-    value: None,
-    help: "Write names and references as the form has them",
-    excludes: &["as-is"],
-};
-
 pub const ENCODING: Flag = Flag {
     name: "encoding",
     short: None,
@@ -129,7 +113,7 @@ pub static NODE_FLAGS: [Flag; 6] = [
         name: "text",
         short: Some('t'),
         value: None,
-        help: "The characters of the texts at or below the node",
+        help: "The characters of the texts below the node",
         excludes: &[],
     },
     Flag {
@@ -143,7 +127,7 @@ pub static NODE_FLAGS: [Flag; 6] = [
         name: "number",
         short: Some('n'),
         value: None,
-        help: "Its number, from 0; edit takes those of --as-is",
+        help: "Its number, from 0 in the order of the page",
         excludes: &[],
     },
     Flag {
@@ -157,16 +141,24 @@ pub static NODE_FLAGS: [Flag; 6] = [
         name: "json",
         short: None,
         value: None,
-        help: "JSON: its number, name, attributes and text",
+        help: "JSON: its number, name, attributes, place and text",
         excludes: &[],
     },
 ];
+
+pub static PRETTY: Flag = Flag {
+    name: "pretty",
+    short: None,
+    value: None,
+    help: "A tag on each line where white space doesn't count",
+    excludes: &[],
+};
 
 pub static TREE: Flag = Flag {
     name: "tree",
     short: None,
     value: None,
-    help: "With --json: its children too, as a tree",
+    help: "With --json: its children in place of its text",
     excludes: &["attribute", "text", "inside", "number", "count"],
 };
 
@@ -284,9 +276,6 @@ pub static LISTS: [Flag; 5] = [
     },
 ];
 
-// How pages are read and written.
-pub static READING: [Flag; 3] = [AS_IS, RAW, ENCODING];
-
 // Whether something is found.
 pub static SEARCH: [Flag; 3] = [QUIET, NAMES, NULL];
 
@@ -296,8 +285,8 @@ pub static SELECTION: [Flag; 2] = [FIRST, MAX_COUNT];
 // How texts are written, and which.
 pub static TEXT_FLAGS: [Flag; 2] = [WHITESPACE, INSIDE];
 
-// What a policy lets stand beside its lists, and how pages are read and written.
-pub static POLICIES: [Flag; 5] = [RELATIVE_LINKS, NOFOLLOW_LINKS, POLICY, AS_IS, ENCODING];
+// What a policy lets stand beside its lists, and what pages are in.
+pub static POLICIES: [Flag; 4] = [RELATIVE_LINKS, NOFOLLOW_LINKS, POLICY, ENCODING];
 
 impl Flag {
     // It as an argument that can stand beside each other one.

@@ -8,17 +8,17 @@ Examples:
   tl text -w index.html                   the text of a page, a block on a line
   tl sanitize comment.html                what of a page may be shown to others
 
-Pages are read as browsers read them: names in any case, end tags that may be
-left out, values without quotes, character references. print and edit, and
---as-is, read by the grammar of tl. Without --encoding a page is in what its
-byte-order mark says, else UTF-8 if it can be, else what its <meta charset>
-says. What is written is UTF-8.
+Pages are read into the tree that browsers build of them: with html, head, body
+and tbody put in, end tags that may be left out, character references, and what
+stands wrongly moved. set and its like, and sanitize, read the page's own tags.
+Without --encoding a page is in what its byte-order mark says, else UTF-8 if it
+can be, else what its <meta charset> says. What is written is UTF-8.
 
 It ends with 0: all is done; 1: nothing is found, of select, links, table, text
---in and the commands that change where a selector holds; 2: words, a selector,
-a page or a step are not understood, or a change is refused; 3: out of memory;
-4: a read or a write failed; 141: what is written is read no more. A page that
-can't be read is said on standard error, and those after it are done.
+--in and the commands that change where a selector holds; 2: words, a selector
+or a page are not understood, or a change is refused; 3: out of memory; 4: a
+read or a write failed; 141: what is written is read no more. A page that can't
+be read is said on standard error, and those after it are done.
 
 On a terminal names of files have colours, unless NO_COLOR is set, and where
 there are many files, or they take long, standard error says how far it is.";
@@ -39,8 +39,8 @@ from browsers.
 
 Of several files each line has the name of its file and a colon before it; with
 --json each node is an object on a line that has its file, where one file alone
-gives an array. With --tree each object has the nodes below it as children; a
-tag among them has no text of its own.";
+gives an array. With --tree each object has the nodes below it as children in
+the place of its text.";
 
 pub const LINKS: &str = "\
 Example:
@@ -60,7 +60,7 @@ words are words of the cell.";
 
 pub const PRINTS: &str = "\
 Example:
-  tl print index.html                     the page with each tag closed";
+  tl print --pretty index.html            the page, an element on a line";
 
 pub const OUTLINES: &str = "\
 Example:
@@ -70,17 +70,7 @@ Two spaces stand for each tag around a node, up to 64; past that, how many there
 are. A tag has its id, its class, and the keys name, property, type, rel, for,
 role, href, src and action; what is written selects it: a.next[href=\"/2\"]. Of a
 text and a comment it is the first line that has words. Texts of white space
-alone are left out, but with -n.
-The numbers that edit takes are those that -n gives with --as-is.";
-
-pub const STEPS: &str = "\
-Example:
-  tl edit 'set 0 lang en' -- index.html   the page with a key at its first node
-
-A step is one word of the shell, as 'set 0 href /x':
-  name N TEXT, text N TEXT, comment N TEXT, set N KEY VALUE, flag N KEY,
-  unset N KEY, bare N KEY, push N M, pull N I, root I M
-N and M are numbers of nodes, from 0 in the order of the page; I is a place.";
+alone are left out, but with -n.";
 
 pub const SETTINGS: &str = "\
 Example:

@@ -1,12 +1,11 @@
 //! The commands.
 use crate::element::ElementVerb;
 use crate::flag::{
-    BASES, ENCODING, Flag, LISTS, NO_NAME, NODE_FLAGS, NODE_NUMBERS, POLICIES, READING, SEARCH,
+    BASES, ENCODING, Flag, LISTS, NO_NAME, NODE_FLAGS, NODE_NUMBERS, POLICIES, PRETTY, SEARCH,
     SELECTION, TABLE_NUMBER, TARGETS, TEXT_FLAGS, TREE,
 };
 use crate::help::{
-    ABOUT, LINKS, OUTLINES, PRINTS, PROGRAM, SAFE, SELECTORS, SETTINGS, STEPS, TABLES, TEXTS,
-    UNSETTINGS,
+    ABOUT, LINKS, OUTLINES, PRINTS, PROGRAM, SAFE, SELECTORS, SETTINGS, TABLES, TEXTS, UNSETTINGS,
 };
 use crate::word::{NODES, TAGS_AND_KEY, TAGS_KEY_AND_VALUE, with_words};
 use clap::{Arg, ArgGroup, Command};
@@ -54,7 +53,6 @@ pub enum Verb {
     Table,
     Print,
     Outline,
-    Edit,
     Set,
     Unset,
     Element(ElementVerb),
@@ -62,14 +60,13 @@ pub enum Verb {
 }
 
 // All commands, in the order of the help. No other one is read.
-static VERBS: [Verb; 19] = [
+static VERBS: [Verb; 18] = [
     Verb::Select,
     Verb::Links,
     Verb::Text,
     Verb::Table,
     Verb::Print,
     Verb::Outline,
-    Verb::Edit,
     Verb::Set,
     Verb::Unset,
     Verb::Element(ElementVerb::Rename),
@@ -94,7 +91,6 @@ impl Verb {
             Verb::Table => "table",
             Verb::Print => "print",
             Verb::Outline => "outline",
-            Verb::Edit => "edit",
             Verb::Set => "set",
             Verb::Unset => "unset",
             Verb::Element(verb) => verb.word(),
@@ -106,12 +102,11 @@ impl Verb {
     fn about<'w>(self) -> &'w str {
         match self {
             Verb::Select => "Writes each node where a selector holds, in the order of the page",
-            Verb::Links => { "Writes the values at href, src, action, poster and srcset" }
+            Verb::Links => "Writes the URLs of all attributes that hold any",
             Verb::Text => "Writes the texts of the page in order, without tags and comments",
             Verb::Table => "Writes a table as CSV, the words of each cell with one space between",
-            Verb::Print => { "Writes the page as the grammar of tl reads it, with each tag closed" }
+            Verb::Print => "Writes the page as browsers read it, with each tag closed",
             Verb::Outline => { "Writes the page as a tree, a line for each node, as CSS names it" }
-            Verb::Edit => "Prints the page after steps, as the grammar of tl reads it",
             Verb::Set => { "Gives tags where a selector holds a value; each other byte stays" }
             Verb::Unset => { "Takes a key from tags where a selector holds; all else stays" }
             Verb::Element(verb) => verb.about(),
@@ -128,7 +123,6 @@ impl Verb {
             Verb::Table => TABLES,
             Verb::Print => PRINTS,
             Verb::Outline => OUTLINES,
-            Verb::Edit => STEPS,
             Verb::Set => SETTINGS,
             Verb::Unset => UNSETTINGS,
             Verb::Element(verb) => verb.notes(),
@@ -150,9 +144,9 @@ impl Verb {
             .arg(files(alloc))
     }
 
-    // It over files, with what says how pages are read and written.
+    // It over files that may say what they are in.
     fn reading_command<'w>(self, alloc: Global) -> Result<Command<'w>, AllocError> {
-        with_flags(alloc, self.plain_command(alloc)?, &READING)
+        self.plain_command(alloc)?.arg(ENCODING.argument(alloc)?)
     }
 
     // It with all its words.
@@ -164,9 +158,8 @@ impl Verb {
             Verb::Table => self
                 .reading_command(alloc)?
                 .arg(TABLE_NUMBER.argument(alloc)?),
-            Verb::Print => self.plain_command(alloc)?.arg(ENCODING.argument(alloc)?),
+            Verb::Print => self.reading_command(alloc)?.arg(PRETTY.argument(alloc)?),
             Verb::Outline => outline(alloc, self.reading_command(alloc)?),
-            Verb::Edit => edit(alloc, self.bare_command(alloc)),
             Verb::Set => set(alloc, self.bare_command(alloc)),
             Verb::Unset => unset(alloc, self.bare_command(alloc)),
             Verb::Element(verb) => {
@@ -190,7 +183,7 @@ impl Verb {
 fn select<'w>(alloc: Global, command: Command<'w>) -> Result<Command<'w>, AllocError> {
     let command = with_words(alloc, command, &NODES)?;
     let command = with_flags(alloc, command, &SELECTION)?;
-    let command = with_flags(alloc, command, &READING)?;
+    let command = command.arg(ENCODING.argument(alloc)?)?;
     let command = with_flags(alloc, command, &SEARCH)?;
     let command = with_flags(alloc, command, &NODE_FLAGS)?;
 
@@ -209,17 +202,6 @@ fn text<'w>(alloc: Global, command: Command<'w>) -> Result<Command<'w>, AllocErr
 
 fn outline<'w>(alloc: Global, command: Command<'w>) -> Result<Command<'w>, AllocError> {
     command.arg(NODE_NUMBERS.argument(alloc)?)
-}
-
-fn edit<'w>(alloc: Global, command: Command<'w>) -> Result<Command<'w>, AllocError> {
-    let steps = Arg::new(alloc, "STEP")
-        .required(true)
-        .num_args(1..)
-        .help("What is done with the page, one step after the other");
-    command
-        .arg(steps)?
-        .arg(NO_NAME.argument(alloc)?)?
-        .arg(files(alloc).last(true))
 }
 
 // A command that changes tags or elements where a selector holds.
