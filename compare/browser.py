@@ -5,12 +5,12 @@
 The pages are those of `tests/safe.t`, which attack a browser, and N made up of pieces of such pages.
 Each is handed to Chromium as it stands and once it is sanitized: as a document in a frame, put into a live element, and put
 there once more as the browser writes it. It says of how many pages a script ran, and of how many a link would run one.
-It is sanitized by the policy of a blog, as browsers read the page and as it is, and with links marked. Of that it says too which
-elements, keys and comments there are beyond the policy's lists, whether html5lib's tokenizer reads the tags and keys that were
-written, and whether sanitizer.py, written from docs/SAFE.md alone, prints the same of the page as it is.
+It is sanitized by the policy of a blog, and with links marked. Of that it says too which elements, keys and comments there are
+beyond the policy's lists, whether html5lib's tokenizer reads the tags and keys that were written, and whether sanitizer.py, written
+from docs/SAFE.md alone, prints the same of the page's form, as html_form.py has it.
 
-With --trees it looks instead at N pages for each of five policies whose tags are nested wrongly (misnested.py), as they are: whether
-the plain sanitizer prints the same, and whether the trees that Chromium builds of the print are those that it was printed of: put
+With --trees it looks instead at N pages for each of five policies whose tags are nested wrongly (misnested.py): whether the plain
+sanitizer prints the same, and whether the trees that Chromium builds of the print are those that it was printed of: put
 into twelve elements, from `div` to `template`, and as a document, with a doctype and without, each of them once more as the browser
 writes it. The same pages go through the Rust crate ammonia where its program is named, which `cargo build --release` makes in
 compare/ammonia.
@@ -30,12 +30,11 @@ from tools.workspace import ROOT, Stop, text_of
 
 from .chromium import Missing, all_answers, chromium, version
 from .fitting import Unchanged
+from .html_form import html_form
 from .markup import tags_read, tags_written, tree_said, tree_with_values_as_texts
 from .misnested import POLICIES, misnested
 from .sanitizer import Policy, safe_print
 
-# How pages are read of which the plain sanitizer prints what is kept.
-AS_IS = "--as-is"
 BATCH = 100
 MANY = 1000
 TREES = 4000
@@ -65,7 +64,7 @@ PIECES = [
 def written_pages():
     """The pages of the transcript, but those for which `video` is listed."""
     rows = rows_of("tests/safe.t", text_of(f"{ROOT}/tests/safe.t"))
-    pages = (re.fullmatch(r"(printf .*) \| tl sanitize --as-is(.*)", it.command) for it in rows)
+    pages = (re.fullmatch(r"(printf .*) \| tl sanitize(.*)", it.command) for it in rows)
     return [said_by(["sh", "-c", it[1]]) for it in pages if it and "videos" not in it[2]]
 
 
@@ -103,6 +102,11 @@ def policy(program, words=()):
     return Policy(said_by([program, "sanitize", *words, "--policy"]).splitlines())
 
 
+def plainly(page, lists, *how):
+    """What the plain sanitizer prints of a page's form."""
+    return safe_print(html_form(page).encode(), lists, *how).decode()
+
+
 def judged(browser, pages):
     """What is seen in Chromium of each page."""
     # A script of the page calls `parent.stolen(N)`.
@@ -124,16 +128,16 @@ def changes(tree, seen):
 def look_at_trees(given, browser, called):
     """Misnested pages of a policy's names: the plain sanitizer's print, and Chromium's trees of it."""
     tags = POLICIES[called]
-    words = [AS_IS, *(["--tags", tags.replace(" ", ",")] if tags else [])]
+    words = ["--tags", tags.replace(" ", ",")] if tags else []
     lists = policy(given.program, words)
     names = sorted(name.decode() for name in lists.tags)
     chance = random.Random(f"{called} {given.seed}")
     pages = [misnested(chance, names) if chance.random() < 0.9 else made_up(chance) for _ in range(given.trees)]
     prints = sanitized(given.program, pages, words)
-    kept = [safe_print(page.encode(), lists, Unchanged).decode() for page in pages]
+    kept = [plainly(page, lists, Unchanged) for page in pages]
     wrong = []
     for page, text in zip(pages, prints):
-        if text.encode() != safe_print(page.encode(), lists):
+        if text != plainly(page, lists):
             wrong.append((len(page), f"the plain sanitizer prints another page: {page!r} is printed as {text!r}"))
     all_seen = trees_seen(browser, prints)
     for page, text, (tree, seen) in zip(pages, prints, all_seen):
@@ -160,7 +164,7 @@ def look_at_pages(program, browser, pages, words):
     prints = sanitized(program, pages, words)
     wrong = 0
     for page, text in zip(pages, prints):
-        if AS_IS in words and text.encode() != safe_print(page.encode(), lists):
+        if text != plainly(page, lists):
             print(f"browser: the plain sanitizer prints another page: {page!r} is printed as {text!r}")
             wrong += 1
         tags = tags_written(text)
@@ -203,7 +207,7 @@ def main(parser, words):
     else:
         chance = random.Random(given.seed)
         pages = written_pages() + [made_up(chance) for _ in range(given.runs)]
-        wrong = sum(look_at_pages(given.program, browser, pages, words) for words in ([], [AS_IS], [AS_IS, "--nofollow-links"]))
+        wrong = sum(look_at_pages(given.program, browser, pages, words) for words in ([], ["--nofollow-links"]))
     print(f"browser: {wrong} pages wrong" if wrong else "browser: nothing wrong")
     return 1 if wrong else 0
 

@@ -1,11 +1,10 @@
 """The table of tests of cascadia, a library of selectors for Go (Debian: golang-github-andybalholm-cascadia-dev), asked of `tl select`.
 
-Each row is a page, a selector, and the prints of the elements where it holds. The page is read by html5lib (Debian:
-python3-html5lib), as cascadia reads it by the standard, and the tree is written with each tag said, so that `tl` reads that tree.
+Each row is a page, a selector, and the prints of the elements where it holds. `tl` says the numbers of these, and html5lib (Debian:
+python3-html5lib), which reads the page by the standard too, what they are.
 """
 import re
 import subprocess
-import tempfile
 
 TOKEN = re.compile(r'`(?P<raw>[^`]*)`|"(?P<quoted>(?:[^"\\]|\\.)*)"|(?P<mark>[{}])|//[^\n]*')
 VOID = frozenset("area base br col embed hr img input keygen link meta param source track wbr".split())
@@ -34,38 +33,33 @@ def escaped(text):
     return re.sub("[&'<>\"]", lambda it: MARKS[it[0]], text)
 
 
-def printed(node, void_end):
-    """A node as Go prints it; an element that is never closed ends with that."""
+def printed(node):
+    """A node as Go prints it."""
     if node.nodeType == node.TEXT_NODE:
         return escaped(node.data)
     if node.nodeType == node.COMMENT_NODE:
         return f"<!--{node.data}-->"
     start = node.tagName + "".join(f' {key}="{escaped(value)}"' for key, value in node.attributes.items())
     if node.tagName in VOID:
-        return f"<{start}{void_end}"
-    return f"<{start}>{''.join(printed(it, void_end) for it in node.childNodes)}</{node.tagName}>"
+        return f"<{start}/>"
+    return f"<{start}>{''.join(printed(it) for it in node.childNodes)}</{node.tagName}>"
 
 
 def nodes_of(parent):
-    """All nodes below, but doctypes, in the order in which `tl` numbers them."""
+    """All nodes below, in the order in which `tl` numbers them."""
     for node in parent.childNodes:
-        if node.nodeType != node.DOCUMENT_TYPE_NODE:
-            yield node
-            yield from nodes_of(node)
+        yield node
+        yield from nodes_of(node)
 
 
-def asked(program, selector, tree):
-    """The prints of what `tl select` finds in a tree, or what it says of a text that is no selector."""
-    top = (it for it in tree.childNodes if it.nodeType != it.DOCUMENT_TYPE_NODE)
-    with tempfile.NamedTemporaryFile("w", suffix=".html", encoding="utf-8") as page:
-        page.write("".join(printed(it, ">") for it in top))
-        page.flush()
-        words = [program, "select", "--as-is", "-n", "--", selector, page.name]
-        run = subprocess.run(words, stdout=subprocess.PIPE, stderr=subprocess.PIPE, check=False)
+def asked(program, selector, page, tree):
+    """The prints of what `tl select` finds in a page with this tree, or what it says of a text that is no selector."""
+    words = [program, "select", "-n", "--", selector]
+    run = subprocess.run(words, input=page.encode(), stdout=subprocess.PIPE, stderr=subprocess.PIPE, check=False)
     if run.returncode == 2:
         return run.stderr.decode().strip()
     nodes = list(nodes_of(tree))
-    return [printed(nodes[int(it)], "/>") for it in run.stdout.split()]
+    return [printed(nodes[int(it)]) for it in run.stdout.split()]
 
 
 def compare_table(program, file):
@@ -76,7 +70,7 @@ def compare_table(program, file):
         rows = rows_of(source.read())
     same = refused = 0
     for page, selector, wanted in rows:
-        found = asked(program, selector, html5lib.parse(page, "dom", namespaceHTMLElements=False))
+        found = asked(program, selector, page, html5lib.parse(page, "dom", namespaceHTMLElements=False))
         same += found == wanted
         refused += isinstance(found, str)
         if found != wanted:

@@ -7,9 +7,9 @@
 Each selector is asked of all pages at once, so a pair costs some microseconds of the program. The plain reader is css/definition.py,
 written from Selectors Level 4. So many of a hundred selectors are broken at random; of these the byte that is wrong is compared,
 too. --chromium asks querySelectorAll (chromium), --soupsieve soupsieve (python3-soupsieve, python3-bs4), each of what it reads; with
-both, it is said of how many pairs where soupsieve differs Chromium answers as the plain reader. Pages are read as browsers read
-them, so the keys `id` and `class` count in any case. The program is the `tl` that the gate built unless another is named; --plain
-asks none, and compares the others with the plain reader. Ends with 1 where the program or Chromium differs from it.
+both, it is said of how many pairs where soupsieve differs Chromium answers as the plain reader. The pages are such that the plain
+reader's tree is that of browsers. The program is the `tl` that the gate built unless another is named; --plain asks none, and compares
+the others with the plain reader. Ends with 1 where the program or Chromium differs from it.
 
 The second form asks the rows of cascadia's selector_test.go (golang-github-andybalholm-cascadia-dev, below /usr/share/gocode), and
 wants python3-html5lib. It says which rows differ; the reasons stand in docs/DIFFERENCES.md.
@@ -59,7 +59,7 @@ class Soup:
 
 
 def answered(program, selector, files):
-    """The numbers that `tl select` finds in each file, or the byte that is wrong."""
+    """The numbers that `tl select` finds in each file, from 0 behind the doctype, or the byte that is wrong."""
     words = [program, "select", "-n", "--", selector, *files]
     run = subprocess.run(words, stdout=subprocess.PIPE, stderr=subprocess.PIPE, check=False)
     if run.returncode == 2:
@@ -70,7 +70,7 @@ def answered(program, selector, files):
     found = {file: [] for file in files}
     for line in run.stdout.decode().splitlines():
         file, number = line.rsplit(":", 1)
-        found[file].append(int(number))
+        found[file].append(int(number) - 1)
     return [found[file] for file in files]
 
 
