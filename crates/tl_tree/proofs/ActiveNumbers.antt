@@ -153,10 +153,6 @@ removed-distinct n xs h own =
     distinct-without (take n xs) (drop (suc n) xs) (get_or xs n Marker)
     (subst (λ (ys : List Entry). IsTrue (are_distinct ys)) (parted xs n Marker h) own)
 
-pub truncated-distinct : (n : ℕ) (xs : List Entry) → IsTrue (are_distinct xs) → IsTrue (are_distinct (take n xs))
-truncated-distinct n xs own =
-    distinct-front (take n xs) (drop n xs) (subst (λ (ys : List Entry). IsTrue (are_distinct ys)) (sym (take-append-drop n xs)) own)
-
 pub inserted-within : (number tag n t : ℕ) (place : ℕ) (xs : List Entry) (more most : ℕ) → number ≤ more → tag ≤ most → n ≤ more → t ≤ most → IsTrue (list_all (entry_is_within number tag) xs) → IsTrue (list_all (entry_is_within more most) (insert xs place (Formatting n t)))
 inserted-within number tag n t place xs more most p q r u all =
     let test = entry_is_within more most in

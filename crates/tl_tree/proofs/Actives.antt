@@ -219,9 +219,6 @@ listed-if s k xs (Some n) some none = sym (seen-listed s k xs ∙ latest-any k n
 
 -- From the latest on
 
-pub latest-init : (k n : ℕ) (xs : List Entry) → n ≡ length xs → list_any (is_of k) (drop n xs) ≡ false
-latest-init k n xs e = ap (list_any (is_of k)) (drop_all n xs (omega arith))
-
 pub latest-step : (p : Entry → Bool) (n : ℕ) (xs : List Entry) (e : Entry) → n < length xs → e ≡ get_or xs n e → p e ≡ false → list_any p (drop (suc n) xs) ≡ false → list_any p (drop n xs) ≡ false
 latest-step p n xs e h is other none =
     ap (list_any p) (drop-cons xs n e h)
@@ -256,9 +253,6 @@ pub listed-step : (s : Store) (name : List ℕ) (n k tag : ℕ) (xs : List Entry
 listed-step s name n k tag xs e h is own named so_far =
     listed-next s name n k tag xs e h is own so_far
     ∙ cond-false (bytes_eq name (tag_at s tag).name) (Some (record { number = k; tag = tag_at s tag })) (listed name (seen s (take n xs))) named
-
-pub seen-all : (s : Store) (n : ℕ) (xs : List Entry) → n ≡ length xs → seen s xs ≡ seen s (take n xs)
-seen-all s n xs e = ap (seen s) (sym (take_all n xs (omega arith)))
 
 -- the last marker
 pub cleared-marker : (s : Store) (n : ℕ) (xs : List Entry) (e : Entry) → n < length xs → e ≡ get_or xs n e → e ≡ Marker → dom.without_last_marker (seen s xs) ≡ dom.without_last_marker (seen s (take (suc n) xs)) → dom.without_last_marker (seen s xs) ≡ seen s (take n xs)
@@ -317,15 +311,6 @@ pub record AlikeSoFar (s : Store) (own : tags.Tag) (xs : List Entry) (left : ℕ
   pub counted : alike_count own (seen s xs) ≡ a.count + alike_count own (seen s (take left xs))
   pub place : 0 < a.count → a.earliest < length xs
   pub gone : 0 < a.count → alike_count own (seen s (take left xs)) ≡ 0 → without_earliest own (seen s xs) ≡ seen s (remove xs a.earliest)
-
-pub alike-init : (s : Store) (own : tags.Tag) (xs : List Entry) (n : ℕ) → n ≡ length xs → AlikeSoFar s own xs n (record { count = 0; earliest = 0 })
-alike-init s own xs n e = record {
-  bound = omega arith;
-  unmarked = ap (list_any is_marker) (drop_all n xs (omega arith));
-  counted = (let same = ap (alike_count own) (seen-all s n xs e) in omega arith);
-  place = λ (h : 0 < 0). absurd (omega arith);
-  gone = λ (h : 0 < 0) z. absurd (omega arith);
-}
 
 -- a marker, or the front of the list
 alike-stop : (s : Store) (own : tags.Tag) (xs : List Entry) (left : ℕ) (a : Alike) → AlikeSoFar s own xs left a → alike_count own (seen s (take left xs)) ≡ 0 → AreAlike s own xs a

@@ -61,21 +61,6 @@ rows-filled : (s : Store) (rows : List Nodes) (cells : List Cell) → rows_from 
 rows-filled s rows [] = refl
 rows-filled s rows (c ∷ cells) = rows-filled s (rows ++ row_in s rows c ∷ []) cells
 
-node-reads : (s : Store) (z : Sizes) (all some : List Nodes) (n : ℕ) (node : Node) → IsTrue (node_is_within z n node) → ((k : ℕ) → k ≤ n → get_or all k no_nodes ≡ get_or some k no_nodes) → node_in s all node ≡ node_in s some node
-node-reads s z all some n (Text own) h same = refl
-node-reads s z all some n (Comment own) h same = refl
-node-reads s z all some n (Doctype number source) h same = refl
-node-reads s z all some n (Element tag below) h same =
-    let p = and_parts (nat_lt tag z.tags) (nat_le below n) h in
-    ap (and_element no_nodes (tag_at s tag)) (same below (leb-true below n p.1))
-node-reads s z all some n (Joined second) h same = same second (leb-true second n h)
-
-row-reads : (s : Store) (z : Sizes) → ReadsWithin z (row_in s) no_nodes
-row-reads s z all some n c h same =
-    let p = and_parts (nat_le c.before n) (node_is_within z n c.node) h in
-    ap (λ v. joined v (node_in s all c.node)) (same c.before (leb-true c.before n p.0))
-    ∙ ap (joined (get_or some c.before no_nodes)) (node-reads s z all some n c.node p.1 same)
-
 -- Weights
 
 weights-filled : (weights : List ℕ) (cells : List Cell) → weights_from weights cells ≡ filled cell_weight weights cells

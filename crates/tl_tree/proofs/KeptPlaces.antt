@@ -37,11 +37,6 @@ placed-long many s e l =
     subst (λ v. IsTrue v) (sym (cond-true (is_long s) (nat_lt (start_of s) many) (nat_lt (start_of s + s.len) (2 ^ 32)) (eq-eqb s.len 255 e)))
     (lt-ltb (start_of s) many l)
 
-pub placed-short : (many : ℕ) (s : ShortBounds) → (s.len ≡ 255 → ⊥) → start_of s + s.len < 2 ^ 32 → IsTrue (is_placed many s)
-placed-short many s e l =
-    subst (λ v. IsTrue v) (sym (cond-false (is_long s) (nat_lt (start_of s) many) (nat_lt (start_of s + s.len) (2 ^ 32)) (ne_eqb s.len 255 e)))
-    (lt-ltb (start_of s + s.len) (2 ^ 32) l)
-
 -- What is read
 
 found : (long : List Bounds) (short : List ShortBounds) (k : ℕ) (s : ShortBounds) (b : Bounds) → slice_get short k ≡ Some s → bounds_at long s ≡ b → Some b ≡ slice_get (map (bounds_at long) short) k
@@ -67,12 +62,6 @@ pushed long short all s b e f =
     ap (map (bounds_at long)) e
     ∙ (map-append (bounds_at long) short (s ∷ [])
     ∙ ap (λ v. map (bounds_at long) short ++ v ∷ []) f)
-
-pub pushed-short : (long : List Bounds) (short all : List ShortBounds) (s : ShortBounds) (b : Bounds) → all ≡ short ++ s ∷ [] → start_of s ≡ b.start → s.len ≡ b.end - b.start → b.start ≤ b.end → b.end - b.start < 255 → map (bounds_at long) all ≡ map (bounds_at long) short ++ b ∷ []
-pushed-short long short all s b e start len order few =
-    pushed long short all s b e
-    (short-at long s (λ (is : s.len ≡ 255). omega (arith, is, len, few))
-    ∙ ap₂ (λ m n. let own : Bounds = record { start = m; end = n } in own) start (omega (arith, start, len, order)))
 
 more-at : (long more : List Bounds) (s : ShortBounds) → IsTrue (is_placed (length long) s) → bounds_at (long ++ more) s ≡ bounds_at long s
 more-at long more s h =

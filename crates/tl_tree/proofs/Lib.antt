@@ -12,6 +12,8 @@ pub mod Templates
 pub mod Goings
 pub mod Ends
 pub mod TreeRows
+pub mod OwnText
+pub mod TreesRead
 pub mod Cuts
 pub mod KeptPlaces
 pub mod Asks

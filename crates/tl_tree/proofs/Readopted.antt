@@ -140,11 +140,6 @@ changed-next zero change (f ∷ frames) h = refl
 changed-next (suc i) change (f ∷ frames) h =
     ap (λ rest. f ∷ rest) (changed-next i change frames (omega arith))
 
-pub changed-end : (i : ℕ) (change : dom.Frame → dom.Frame) (frames : List dom.Frame) → length frames ≤ i → take i frames ++ map change (drop i frames) ≡ frames
-changed-end i change frames h =
-    ap (λ back. take i frames ++ map change back) (drop_all i frames h)
-    ∙ (append-nil (take i frames) ∙ take_all i frames h)
-
 -- A new element is put into the block
 
 renewed-at : (xs : List dom.Frame) (b new : dom.Frame) (ys : List dom.Frame) (first second : dom.Frame → dom.Frame) → let n = length xs in let all = changed n first (insert (xs ++ b ∷ ys) (suc n) new) in take (suc (suc n)) all ++ map second (drop (suc (suc n)) all) ≡ xs ++ (first b ∷ new ∷ map second ys)

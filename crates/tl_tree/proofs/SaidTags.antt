@@ -109,27 +109,17 @@ has-split : (key : List ℕ) (keys : List (List ℕ)) → has_key key keys ≡ (
 has-split key keys =
     ap (has_key key) (sym (take-append-drop 16 keys)) ∙ list_any-append (λ k. bytes_eq k key) (take 16 keys) (drop 16 keys)
 
-pub has-first : (key : List ℕ) (keys : List (List ℕ)) → has_key key (take 16 keys) ≡ true → has_key key keys ≡ true
-has-first key keys h = has-split key keys ∙ ap (λ (b : Bool). b || has_key key (drop 16 keys)) h
-
 pub has-others : (key : List ℕ) (keys : List (List ℕ)) → has_key key (take 16 keys) ≡ false → has_key key keys ≡ has_key key (drop 16 keys)
 has-others key keys h = has-split key keys ∙ ap (λ (b : Bool). b || has_key key (drop 16 keys)) h
 
 pub first-asked : (s : Store) (key : List ℕ) (xs : List AttributeEntry) (b : Bool) → dom.has_attribute key (attributes_in s (take 16 xs)) ≡ b → has_key key (take 16 (keys_in s xs)) ≡ b
 first-asked s key xs b h = ap (has_key key) (sym (map-take (λ (e : AttributeEntry). bytes_of s e.key) 16 xs)) ∙ (sym (keys-has s key (take 16 xs)) ∙ h)
 
-pub behind-same : (set : BTreeSet (Vec ℕ Global)) (keys : List (List ℕ)) (key : List ℕ) → AreKeysBehind set keys → has_key key keys ≡ true → AreKeysBehind set (with_key keys key)
-behind-same set keys key known has q =
-    known q ∙ ap (λ (b : Bool). has_key q.items (drop 16 (if b then keys else keys ++ key ∷ []))) (sym has)
-
 short : (keys : List (List ℕ)) (key : List ℕ) → length keys < 16 → (b : Bool) → drop 16 keys ≡ drop 16 (if b then keys else keys ++ key ∷ [])
 short keys key few true = refl
 short keys key few false =
     let more = length-append keys (key ∷ []) in
     drop_all 16 keys (omega arith) ∙ sym (drop_all 16 (keys ++ key ∷ []) (omega arith))
-
-pub behind-few : (set : BTreeSet (Vec ℕ Global)) (keys : List (List ℕ)) (key : List ℕ) → AreKeysBehind set keys → length keys < 16 → AreKeysBehind set (with_key keys key)
-behind-few set keys key known few q = known q ∙ ap (has_key q.items) (short keys key few (has_key key keys))
 
 twice : (x : Bool) → not (not x) ≡ x
 twice true = refl
@@ -201,14 +191,6 @@ page-bytes s place bytes span start len within stands =
     ap (λ n. take n (drop span.start (s.page.now ++ s.side.items))) len
     ∙ (ap (λ n. take (length bytes) (drop n (s.page.now ++ s.side.items))) start
     ∙ (part-front (length bytes) place s.page.now s.side.items within ∙ stands))
-
--- the key of the first attribute
-pub key-found : (s : Store) (own : List ℕ) (e : AttributeEntry) (more : List AttributeEntry) → bytes_eq (bytes_of s e.key) own ≡ true → dom.has_attribute own (attributes_in s (e ∷ more)) ≡ true
-key-found s own e more same = ap (λ (b : Bool). b || dom.has_attribute own (attributes_in s more)) same
-
--- or of those after it
-pub key-after : (s : Store) (own : List ℕ) (e : AttributeEntry) (more : List AttributeEntry) → bytes_eq (bytes_of s e.key) own ≡ false → dom.has_attribute own (attributes_in s (e ∷ more)) ≡ dom.has_attribute own (attributes_in s more)
-key-after s own e more other = ap (λ (b : Bool). b || dom.has_attribute own (attributes_in s more)) other
 
 -- what was put in last
 pub last-entries : {A : Type 0} (front xs items : List A) (first all : ℕ) → items ≡ front ++ xs → first ≡ length front → all ≡ length items → take (all - first) (drop first items) ≡ xs

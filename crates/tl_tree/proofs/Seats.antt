@@ -44,14 +44,6 @@ innermost-front rows other k p same i = record {
   inner = λ j row got l m. i.inner j row (sym (same j l) ∙ got) l m;
 }
 
--- the rows before a number, which are chained
-pub chained-front : (rows : List Row) (n : ℕ) → ((k : ℕ) (row : Row) → k < n → slice_get rows k ≡ Some row → IsInnermost rows k row.parent) → Chained (take n rows)
-chained-front rows n chained k row got =
-    elim (cases_lt k n) as (λ _. IsInnermost (take n rows) k row.parent) [
-      | inl l ↦ innermost-front rows (take n rows) k row.parent (λ j m. get-take n j rows (omega (arith, l, m))) (chained k row l (sym (get-take n k rows l) ∙ got))
-      | inr m ↦ (let within = slice_get_within (take n rows) k row got in let short = length-take-le n rows in absurd (let g : ⊥ = omega (arith, m, within, short) in g))
-    ]
-
 -- Rows that fit
 
 fits-at : (total : ℕ) (flats : List Flat) (all : List rows.Row) (k : ℕ) (own : Flat) (row : rows.Row) → Fits total flats all → slice_get flats k ≡ Some own → slice_get all k ≡ Some row → (own.node ≡ row.node) × (row.end + own.behind ≡ total)

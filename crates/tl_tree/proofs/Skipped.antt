@@ -127,12 +127,6 @@ none-at test path n i h le less =
 
 -- What the entered elements say
 
-pub known-all : (p : FramePath) → length (entered p.scopes) ≡ length p.frames.items → entered p.scopes ≡ map (entered_of p.store) p.frames.items
-known-all p e =
-    let all = map (entered_of p.store) p.frames.items in
-    let many = length-map p.frames.items (entered_of p.store) in
-    p.known ∙ take_all (length (entered p.scopes)) all (omega arith)
-
 entered-none : (test : Entered → Bool) (own : dom.Frame → Bool) (p : FramePath) (n : ℕ) → ((f : Frame) → test (entered_of p.store f) ≡ true → not (own (frame_of p.store f)) ≡ true) → entered p.scopes ≡ map (entered_of p.store) p.frames.items → list_all test (drop n (entered p.scopes)) ≡ true → IsTrue (none_from own p n)
 unfolding none_from frames_of
 entered-none test own p n w known h =

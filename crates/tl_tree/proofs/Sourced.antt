@@ -320,7 +320,7 @@ within-list [] k h = absurd (let f : ⊥ = omega (arith, h) in f)
 within-list (m ∷ marks) zero h = (m, refl)
 within-list (m ∷ marks) (suc k) h = within-list marks k (omega (arith, h))
 
-module _ (tree : Tree) (begin : ℕ) (end : ℕ) (marks : List Mark) (kept : bounds_in tree.sources ≡ places_of begin marks) (long : length tree.store.page.now ≡ end) where
+module _ (tree : Tree) (begin : ℕ) (end : ℕ) (marks : List Mark) (kept : bounds_in tree.sources ≡ places_of begin marks) (long : tree.page_end ≡ end) where
   mark-place : (k : ℕ) (o : Option Mark) → slice_get marks k ≡ o → place_at tree (suc k) ≡ option_map (λ (m : Mark). source_of (bounds_of m)) o
   mark-place k o e = ap (λ (xs : List Bounds). option_map source_of (slice_get xs (suc k))) kept ∙ (ap (option_map source_of) (found-bounds marks k o e) ∙ twice o)
     where
@@ -336,10 +336,10 @@ module _ (tree : Tree) (begin : ℕ) (end : ℕ) (marks : List Mark) (kept : bou
       subst (IsMarkAt marks own k) (sym (mark-place k (Some h.mark) h.found))
       (h.found ∙ ap (λ (d : TokenKind). Some (let m : Mark = record { kind = d; start = h.mark.start; end = h.mark.end } in m)) h.is)
 
-  gap-ends : (n : ℕ) → start_or (length tree.store.page.now) (place_at tree (suc n)) ≡ gap_end end marks n
+  gap-ends : (n : ℕ) → start_or (tree.page_end) (place_at tree (suc n)) ≡ gap_end end marks n
   gap-ends n =
-      ap (start_or (length tree.store.page.now)) (mark-place n (slice_get marks n) refl)
-      ∙ (by-mark (length tree.store.page.now) (slice_get marks n)
+      ap (start_or (tree.page_end)) (mark-place n (slice_get marks n) refl)
+      ∙ (by-mark (tree.page_end) (slice_get marks n)
       ∙ ap (λ (own : ℕ). gap_end own marks n) long)
     where
       by-mark : (own : ℕ) (o : Option Mark) → start_or own (option_map (λ (m : Mark). source_of (bounds_of m)) o) ≡ unwrap_or (option_map (λ (m : Mark). m.start) o) own
@@ -348,7 +348,7 @@ module _ (tree : Tree) (begin : ℕ) (end : ℕ) (marks : List Mark) (kept : bou
 
   gap-from : (n : ℕ) (before : Source) → place_at tree n ≡ Some before → n ≤ length marks → before.end ≡ gap_start begin marks n → IsGapAt begin end marks n (gap_at tree n)
   gap-from n before e h f =
-      subst (λ o. IsGapAt begin end marks n (option_map (λ (own : Source). let s : Source = record { start = own.end; end = start_or (length tree.store.page.now) (place_at tree (suc n)) } in s) o)) (sym e)
+      subst (λ o. IsGapAt begin end marks n (option_map (λ (own : Source). let s : Source = record { start = own.end; end = start_or (tree.page_end) (place_at tree (suc n)) } in s) o)) (sym e)
       (h, f, gap-ends n)
 
   gap-found : (n : ℕ) → n ≤ length marks → IsGapAt begin end marks n (gap_at tree n)
@@ -369,7 +369,7 @@ module _ (tree : Tree) (begin : ℕ) (end : ℕ) (marks : List Mark) (kept : bou
   node-found (a_comment own) h = mark-found kind.Comment own.source h
   node-found (a_doctype own) h = mark-found kind.Doctype own.source h
 
-tree-sourced : (page : List ℕ) (begin : Reached) (tree : Tree) (trees : HtmlForest) (built : Builder) (sources : List Bounds) → rows_in tree ≡ rows_of trees → bounds_in tree.sources ≡ sources → length tree.store.page.now ≡ length page → (s : AreSources page begin built sources) → Follows (numbered s.last.marks) trees → AreSourced page begin tree
+tree-sourced : (page : List ℕ) (begin : Reached) (tree : Tree) (trees : HtmlForest) (built : Builder) (sources : List Bounds) → rows_in tree ≡ rows_of trees → bounds_in tree.sources ≡ sources → tree.page_end ≡ length page → (s : AreSources page begin built sources) → Follows (numbered s.last.marks) trees → AreSourced page begin tree
 tree-sourced page begin tree trees built sources is kept long s f = record {
   last = s.last;
   read = s.read;
@@ -382,13 +382,13 @@ tree-sourced page begin tree trees built sources is kept long s f = record {
 }
 
 -- a page, and a fragment
-pub page-sourced : (flags : Flags) (page : List ℕ) (tree : Tree) (built : Builder) (sources : List Bounds) → rows_in tree ≡ rows_of (document_of built).trees → bounds_in tree.sources ≡ sources → length tree.store.page.now ≡ length page → AreSources page (page_begin flags page) built sources → AreSourced page (page_begin flags page) tree
+pub page-sourced : (flags : Flags) (page : List ℕ) (tree : Tree) (built : Builder) (sources : List Bounds) → rows_in tree ≡ rows_of (document_of built).trees → bounds_in tree.sources ≡ sources → tree.page_end ≡ length page → AreSources page (page_begin flags page) built sources → AreSourced page (page_begin flags page) tree
 page-sourced flags page tree built sources is kept long s =
     let own = numbered s.last.marks in
     tree-sourced page (page_begin flags page) tree (document_of built).trees built sources is kept long s
     (document-Follows own built (subst (Holds own) (sym s.done) (ended-Holds page (page_begin flags page) s.last refl s.read (page_start-Holds own flags tt tt (omega arith)))))
 
-pub fragment-sourced : (flags : Flags) (context : Context) (page : List ℕ) (tree : Tree) (built : Builder) (sources : List Bounds) → rows_in tree ≡ rows_of (children_of built) → bounds_in tree.sources ≡ sources → length tree.store.page.now ≡ length page → AreSources page (fragment_begin flags context) built sources → AreSourced page (fragment_begin flags context) tree
+pub fragment-sourced : (flags : Flags) (context : Context) (page : List ℕ) (tree : Tree) (built : Builder) (sources : List Bounds) → rows_in tree ≡ rows_of (children_of built) → bounds_in tree.sources ≡ sources → tree.page_end ≡ length page → AreSources page (fragment_begin flags context) built sources → AreSourced page (fragment_begin flags context) tree
 fragment-sourced flags context page tree built sources is kept long s =
     let own = numbered s.last.marks in
     tree-sourced page (fragment_begin flags context) tree (children_of built) built sources is kept long s

@@ -108,9 +108,6 @@ other-on-top p n f long some is other =
     ∙ (other-goes (frame_of p.store f) (reverse (take n (frames_of p))) (omega arith) other
     ∙ sym (ap (λ (path : dom.Path). from_html (inner path)) e))
 
-pub cut-one : (p q : FramePath) (f : dom.Frame) → path_of p ≡ f ∷ path_of q → from_html (path_of p) ≡ from_html (inner (path_of p)) → from_html (path_of q) ≡ from_html (path_of p)
-cut-one p q f is same = sym (same ∙ ap (λ (path : dom.Path). from_html (inner path)) is)
-
 -- Open frames, from the outermost on
 
 opened-step : (p : FramePath) (n : ℕ) (f : Frame) → f ≡ get_or p.frames.items n f → n < length p.frames.items → opened_from p n ≡ cond f.is_open (frame_of p.store f ∷ opened_from p (n + 1)) (opened_from p (n + 1))

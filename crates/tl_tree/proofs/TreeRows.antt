@@ -31,7 +31,7 @@ use Rattle.tl_tree.specs.declared.store.Store.{Store}
 
 -- Tags and doctypes hang on no cells
 
-abbrev tag-part : List ℕ → AttributeLists → List TagEntry → ℕ → dom.Tag
+abbrev pub tag-part : List ℕ → AttributeLists → List TagEntry → ℕ → dom.Tag
 tag-part text attributes tags n =
     get_or
     (map (λ (t : TagEntry). record {
@@ -41,11 +41,11 @@ tag-part text attributes tags n =
       source = source_of t.start;
     }) tags) n (dom.bare_tag [])
 
-tag-parts : (s : Store) (n : ℕ) → tag_at s n ≡ tag-part (text_of s) s.attributes s.tags.items n
+pub tag-parts : (s : Store) (n : ℕ) → tag_at s n ≡ tag-part (text_of s) s.attributes s.tags.items n
 unfolding tag_at tag_of bytes_of
 tag-parts s n = refl
 
-abbrev doctype-part : List ℕ → List DoctypeEntry → ℕ → doctypes.Doctype
+abbrev pub doctype-part : List ℕ → List DoctypeEntry → ℕ → doctypes.Doctype
 doctype-part text entries n =
     get_or
     (map (λ (d : DoctypeEntry). record {
@@ -55,7 +55,7 @@ doctype-part text entries n =
       forces_quirks = d.forces_quirks;
     }) entries) n doctypes.no_doctype.own
 
-doctype-parts : (s : Store) (n : ℕ) → doctype_at s n ≡ doctype-part (text_of s) s.doctypes.items n
+pub doctype-parts : (s : Store) (n : ℕ) → doctype_at s n ≡ doctype-part (text_of s) s.doctypes.items n
 unfolding doctype_at doctype_of bytes_of
 doctype-parts s n = refl
 
@@ -92,7 +92,7 @@ tree-held s t u copied g side a (Comment own) h = ap (λ v. rows.a_comment (mark
 tree-held s t u copied g side a (Doctype n source) h =
     ap (λ v. rows.a_doctype (marked source v)) (doctype-alike t u a n ∙ doctype-at-grown s t g n (ltb-true n (length s.doctypes.items) h))
 
-row-with : (node other : rows.Node) (row : Row) → node ≡ other → (let r : rows.Row = record { node = node; parent = parent_of row.parent; end = row.end } in r) ≡ (let r : rows.Row = record { node = other; parent = parent_of row.parent; end = row.end } in r)
+pub row-with : (node other : rows.Node) (row : Row) → node ≡ other → (let r : rows.Row = record { node = node; parent = parent_of row.parent; end = row.end } in r) ≡ (let r : rows.Row = record { node = other; parent = parent_of row.parent; end = row.end } in r)
 row-with node other row e = ap (λ v. let r : rows.Row = record { node = v; parent = parent_of row.parent; end = row.end } in r) e
 
 pub tree-rows : (t u : Store) (trees : HtmlForest) (made : Settled) → AreRowsOf trees made → Grows made.store t → t.side.items ≡ made.store.side.items ++ made.copied.items → IsAlike t u → map (row_in u (text_of u)) made.rows.items ≡ rows.rows_of trees

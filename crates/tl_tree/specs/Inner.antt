@@ -46,3 +46,4 @@ pub mod AtRest
 pub mod Errors
 pub mod Parted
 pub mod Standing
+pub mod Outcomes

@@ -145,7 +145,7 @@ gap_at tree marks =
     (λ (before : Source).
     record {
       start = before.end;
-      end = start_or (length tree.store.page.now) (place_at tree (suc marks));
+      end = start_or tree.page_end (place_at tree (suc marks));
     })
     (place_at tree marks)
 

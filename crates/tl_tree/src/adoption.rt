@@ -1,6 +1,6 @@
 //! The adoption agency algorithm (13.2.6.4.7), on the path and the list of active formatting
 //! elements.
-ghost use Rattle.std.specs.Prelude.{IfOk, List, OnOk, [], drop, false, length, reverse, take, ℕ, ◌+◌, ◌<◌, ◌^◌, ◌≡◌, ◌≤◌};
+ghost use Rattle.std.specs.Prelude.{IfOk, List, OnOk, false, length, reverse, take, ℕ, ◌+◌, ◌<◌, ◌^◌, ◌≡◌, ◌≤◌};
 ghost use Rattle.tl_dom_spec.specs.Adoption.{cloned, entry_moved, inside_of};
 ghost use Rattle.tl_dom_spec.specs.Path as dom;
 ghost use Rattle.tl_dom_spec.specs.Path.{elements};

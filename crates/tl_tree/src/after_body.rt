@@ -1,5 +1,5 @@
 //! "after body" and "after after body" (13.2.6.4.17 and .20).
-ghost use Rattle.std.specs.Prelude.{IfOk, OnOk, ◌≡◌};
+ghost use Rattle.std.specs.Prelude.{IfOk, ◌≡◌};
 ghost use Rattle.tl_dom_spec.specs.Builder.{is_fragment};
 ghost use Rattle.tl_dom_spec.specs.Outer.{after_after_body_step, after_body_end, after_body_start, after_body_step, back_in_body};
 ghost use Rattle.tl_tree.specs.Inner.Builders.{builder_of, outcome_of, token_of, token_view};
@@ -36,10 +36,7 @@ impl<'a> Builder<'a> {
         ensures token { token_of self.new ≡ token_of self.old }
     {
         match group {
-            Group::TheHtml => {
-                self.html_start()?;
-                Ok(Outcome::Done)
-            }
+            Group::TheHtml => Outcome::Done.after(self.html_start()),
             _ => self.back_in_body(),
         }
     }
@@ -69,10 +66,7 @@ impl<'a> Builder<'a> {
         match token {
             Token::Character(byte) if byte.is_ascii_whitespace() => self.in_body(token),
             Token::Character(_) => self.back_in_body(),
-            Token::Comment => {
-                self.insert_comment_behind(1)?;
-                Ok(Outcome::Done)
-            }
+            Token::Comment => Outcome::Done.after(self.insert_comment_behind(1)),
             Token::Start { group, closes: _ } => self.after_body_start(group),
             Token::End { group, name: _ } => self.after_body_end(group),
             Token::Doctype | Token::EndOfFile => Ok(Outcome::Done),
@@ -88,10 +82,7 @@ impl<'a> Builder<'a> {
         match token {
             Token::Character(byte) if byte.is_ascii_whitespace() => self.in_body(token),
             Token::Character(_) => self.back_in_body(),
-            Token::Comment => {
-                self.insert_comment_behind(0)?;
-                Ok(Outcome::Done)
-            }
+            Token::Comment => Outcome::Done.after(self.insert_comment_behind(0)),
             Token::Start { group, closes: _ } => self.after_body_start(group),
             Token::End { .. } => self.back_in_body(),
             Token::Doctype | Token::EndOfFile => Ok(Outcome::Done),

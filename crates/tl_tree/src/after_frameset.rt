@@ -1,5 +1,5 @@
 //! "after frameset" and "after after frameset" (13.2.6.4.19 and .21).
-ghost use Rattle.std.specs.Prelude.{IfOk, OnOk, ◌≡◌};
+ghost use Rattle.std.specs.Prelude.{IfOk, ◌≡◌};
 ghost use Rattle.tl_dom_spec.specs.Outer.{after_after_frameset_step, after_frameset_end, after_frameset_start, after_frameset_step};
 ghost use Rattle.tl_tree.specs.Inner.Builders.{builder_of, outcome_of, token_of, token_view};
 ghost use Rattle.tl_tree.specs.Inner.GroupNames.{group_view as group_of};
@@ -19,11 +19,10 @@ impl<'a> Builder<'a> {
         ensures token { token_of self.new ≡ token_of self.old }
     {
         match group {
-            Group::TheHtml => self.html_start()?,
-            Group::ANoframes => return self.in_head_start(group),
-            _ => {}
+            Group::TheHtml => Outcome::Done.after(self.html_start()),
+            Group::ANoframes => self.in_head_start(group),
+            _ => Ok(Outcome::Done),
         }
-        Ok(Outcome::Done)
     }
 
     // An end tag.
@@ -44,13 +43,15 @@ impl<'a> Builder<'a> {
         ensures token { token_of self.new ≡ token_of self.old }
     {
         match token {
-            Token::Character(byte) => self.insert_whitespace(byte)?,
-            Token::Comment => self.insert_comment()?,
-            Token::Start { group, closes: _ } => return self.after_frameset_start(group),
-            Token::End { group, name: _ } => self.after_frameset_end(group),
-            Token::Doctype | Token::EndOfFile => {}
+            Token::Character(byte) => Outcome::Done.after(self.insert_whitespace(byte)),
+            Token::Comment => self.comment_inserted(),
+            Token::Start { group, closes: _ } => self.after_frameset_start(group),
+            Token::End { group, name: _ } => {
+                self.after_frameset_end(group);
+                Ok(Outcome::Done)
+            }
+            Token::Doctype | Token::EndOfFile => Ok(Outcome::Done),
         }
-        Ok(Outcome::Done)
     }
 
     pub(crate) fn after_after_frameset(&mut self, token: Token<'_>) -> Result<Outcome, GrowError>
@@ -60,11 +61,10 @@ impl<'a> Builder<'a> {
         ensures token { token_of self.new ≡ token_of self.old }
     {
         match token {
-            Token::Character(byte) if byte.is_ascii_whitespace() => return self.in_body(token),
-            Token::Comment => self.insert_comment_behind(0)?,
-            Token::Start { group, closes: _ } => return self.after_frameset_start(group),
-            _ => {}
+            Token::Character(byte) if byte.is_ascii_whitespace() => self.in_body(token),
+            Token::Comment => Outcome::Done.after(self.insert_comment_behind(0)),
+            Token::Start { group, closes: _ } => self.after_frameset_start(group),
+            _ => Ok(Outcome::Done),
         }
-        Ok(Outcome::Done)
     }
 }

@@ -21,9 +21,8 @@ impl<'a> Builder<'a> {
             ≡ body_implied (builder_of self.old)) }
         ensures token { token_of self.new ≡ token_of self.old }
     {
-        self.insert_implied(b"body")?;
         self.switch_to(Mode::InBody);
-        Ok(Outcome::Again)
+        Outcome::Again.after(self.insert_implied(b"body"))
     }
 
     // A start tag of `body`.
@@ -33,10 +32,9 @@ impl<'a> Builder<'a> {
             (frameset_not_ok (insert_element (token_of self.old).tag (builder_of self.old)))) }
         ensures token { token_of self.new ≡ token_of self.old }
     {
-        self.insert_element()?;
         self.frameset_not_ok();
         self.switch_to(Mode::InBody);
-        Ok(())
+        self.insert_element()
     }
 
     // A start tag of `frameset`.
@@ -46,9 +44,8 @@ impl<'a> Builder<'a> {
             (insert_element (token_of self.old).tag (builder_of self.old))) }
         ensures token { token_of self.new ≡ token_of self.old }
     {
-        self.insert_element()?;
         self.switch_to(Mode::InFrameset);
-        Ok(())
+        self.insert_element()
     }
 
     fn after_head_start(&mut self, group: Group) -> Result<Outcome, GrowError>
@@ -57,18 +54,19 @@ impl<'a> Builder<'a> {
         ensures token { token_of self.new ≡ token_of self.old }
     {
         match group {
-            Group::TheHtml => self.html_start()?,
-            Group::TheBody => self.html_body_opened()?,
-            Group::AFrameset => self.frameset_opened()?,
-            Group::TheHead => {}
-            Group::ABase | Group::ALink => self.insert_and_pop_at(Place::IntoHead)?,
-            Group::ATitle | Group::ANoframes | Group::AStyle | Group::AScript => {
-                self.parse_raw_text_at(Place::IntoHead)?
+            Group::TheHtml => Outcome::Done.after(self.html_start()),
+            Group::TheBody => Outcome::Done.after(self.html_body_opened()),
+            Group::AFrameset => Outcome::Done.after(self.frameset_opened()),
+            Group::TheHead => Ok(Outcome::Done),
+            Group::ABase | Group::ALink => {
+                Outcome::Done.after(self.insert_and_pop_at(Place::IntoHead))
             }
-            Group::ATemplate => self.template_opened(Place::IntoHead)?,
-            _ => return self.html_body_implied(),
+            Group::ATitle | Group::ANoframes | Group::AStyle | Group::AScript => {
+                Outcome::Done.after(self.parse_raw_text_at(Place::IntoHead))
+            }
+            Group::ATemplate => Outcome::Done.after(self.template_opened(Place::IntoHead)),
+            _ => self.html_body_implied(),
         }
-        Ok(Outcome::Done)
     }
 
     fn after_head_end(&mut self, group: Group) -> Result<Outcome, GrowError>
@@ -77,14 +75,14 @@ impl<'a> Builder<'a> {
         ensures token { token_of self.new ≡ token_of self.old }
     {
         match group {
-            Group::ATemplate => self.template_end_tag()?,
+            Group::ATemplate => Outcome::Done.after(self.template_end_tag()),
             _ => {
                 if is_body_end(group) {
                     return self.html_body_implied();
                 }
+                Ok(Outcome::Done)
             }
         }
-        Ok(Outcome::Done)
     }
 
     pub(crate) fn after_head(&mut self, token: Token<'_>) -> Result<Outcome, GrowError>

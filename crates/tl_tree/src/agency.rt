@@ -4,7 +4,7 @@ ghost use Rattle.std.specs.Prelude.{IfOk, IfSome, List, None, OnOk, Some, length
 ghost use Rattle.tl_dom_spec.specs.Adoption.{adoption_agency, adoption_round, any_other_end_tag, furthest_block, with_block, with_formatting};
 ghost use Rattle.tl_dom_spec.specs.Builder as dom;
 ghost use Rattle.tl_dom_spec.specs.Builder.{current_node};
-ghost use Rattle.tl_dom_spec.specs.Formatting.{is_listed, listed, unlisted};
+ghost use Rattle.tl_dom_spec.specs.Formatting.{is_listed, listed};
 ghost use Rattle.tl_dom_spec.specs.Path.{has_number, popped_through};
 ghost use Rattle.tl_dom_spec.specs.Tags.{is_named};
 ghost use Rattle.tl_tree.specs.Inner.Active.{listed_of};
@@ -91,8 +91,7 @@ impl<'a> Builder<'a> {
         ensures token { token_of self.new ≡ token_of self.old }
     {
         let made = self.adopt_block(own, block)?;
-        self.add_more(made)?;
-        Ok(Outcome::Again)
+        Outcome::Again.after(self.add_more(made))
     }
 
     // A round without one.
@@ -101,9 +100,8 @@ impl<'a> Builder<'a> {
             ≡ with_block (builder_of self.old) (listed_of self.old.path.store own) None) }
         ensures token { token_of self.new ≡ token_of self.old }
     {
-        self.pop_number(own.number)?;
         self.unlist(own.number);
-        Ok(Outcome::Done)
+        Outcome::Done.after(self.pop_number(own.number))
     }
 
     // A round where the formatting element is open and in scope.
@@ -159,8 +157,7 @@ impl<'a> Builder<'a> {
             ≡ dom.Done (any_other_end_tag name.now (builder_of self.old))) }
         ensures token { token_of self.new ≡ token_of self.old }
     {
-        self.any_other_end_tag(name)?;
-        Ok(Outcome::Done)
+        Outcome::Done.after(self.any_other_end_tag(name))
     }
 
     // A round of the outer loop.

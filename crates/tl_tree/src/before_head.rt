@@ -18,10 +18,9 @@ impl<'a> Builder<'a> {
             (builder_of self.new ≡ head_opened (builder_of self.old) (token_of self.old).tag) }
         ensures token { token_of self.new ≡ token_of self.old }
     {
-        self.insert_element()?;
         self.set_head();
         self.switch_to(Mode::InHead);
-        Ok(())
+        self.insert_element()
     }
 
     fn head_implied(&mut self) -> Result<Outcome, GrowError>
@@ -29,10 +28,9 @@ impl<'a> Builder<'a> {
             ≡ head_implied (builder_of self.old)) }
         ensures token { token_of self.new ≡ token_of self.old }
     {
-        self.insert_implied(b"head")?;
         self.set_head();
         self.switch_to(Mode::InHead);
-        Ok(Outcome::Again)
+        Outcome::Again.after(self.insert_implied(b"head"))
     }
 
     fn before_head_start(&mut self, group: Group) -> Result<Outcome, GrowError>
@@ -41,14 +39,8 @@ impl<'a> Builder<'a> {
         ensures token { token_of self.new ≡ token_of self.old }
     {
         match group {
-            Group::TheHtml => {
-                self.html_start()?;
-                Ok(Outcome::Done)
-            }
-            Group::TheHead => {
-                self.head_opened()?;
-                Ok(Outcome::Done)
-            }
+            Group::TheHtml => Outcome::Done.after(self.html_start()),
+            Group::TheHead => Outcome::Done.after(self.head_opened()),
             _ => self.head_implied(),
         }
     }

@@ -18,9 +18,8 @@ impl<'a> Builder<'a> {
             (builder_of self.new ≡ html_opened (builder_of self.old) (token_of self.old).tag) }
         ensures token { token_of self.new ≡ token_of self.old }
     {
-        self.insert_element()?;
         self.switch_to(Mode::BeforeHead);
-        Ok(())
+        self.insert_element()
     }
 
     pub(crate) fn html_implied(&mut self) -> Result<Outcome, GrowError>
@@ -28,9 +27,8 @@ impl<'a> Builder<'a> {
             ≡ html_implied (builder_of self.old)) }
         ensures token { token_of self.new ≡ token_of self.old }
     {
-        self.insert_implied(b"html")?;
         self.switch_to(Mode::BeforeHead);
-        Ok(Outcome::Again)
+        Outcome::Again.after(self.insert_implied(b"html"))
     }
 
     /// A start tag.
@@ -40,10 +38,7 @@ impl<'a> Builder<'a> {
         ensures token { token_of self.new ≡ token_of self.old }
     {
         match group {
-            Group::TheHtml => {
-                self.html_opened()?;
-                Ok(Outcome::Done)
-            }
+            Group::TheHtml => Outcome::Done.after(self.html_opened()),
             _ => self.html_implied(),
         }
     }

@@ -84,9 +84,8 @@ impl<'a> Builder<'a> {
         if !self.has_in_scope(TagTest::Named(name)) {
             return Ok(());
         }
-        self.close_except_for(TagTest::Nothing, TagTest::Named(name))?;
         self.clear_to_last_marker();
-        Ok(())
+        self.close_except_for(TagTest::Nothing, TagTest::Named(name))
     }
 
     pub(crate) fn form_ended(&mut self) -> Result<(), GrowError>
@@ -111,8 +110,7 @@ impl<'a> Builder<'a> {
         ensures token { token_of self.new ≡ token_of self.old }
     {
         self.reconstruct_formatting()?;
-        self.insert_and_pop_implied(b"br")?;
         self.frameset_not_ok();
-        Ok(())
+        self.insert_and_pop_implied(b"br")
     }
 }

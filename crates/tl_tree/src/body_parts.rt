@@ -139,9 +139,8 @@ impl<'a> Builder<'a> {
         ensures token { token_of self.new ≡ token_of self.old }
     {
         let number = self.path.next;
-        self.insert_element()?;
         self.set_form(Some(number));
-        Ok(())
+        self.insert_element()
     }
 
     // Ends the listed element of a number, which leaves the list and the stack.

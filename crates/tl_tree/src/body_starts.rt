@@ -34,9 +34,8 @@ impl<'a> Builder<'a> {
         if self.has_template() {
             return Ok(());
         }
-        self.add_attributes(number)?;
         self.frameset_not_ok();
-        Ok(())
+        self.add_attributes(number)
     }
 
     /// `frameset`.
@@ -55,9 +54,8 @@ impl<'a> Builder<'a> {
             return Ok(());
         }
         self.cut_to_html();
-        self.insert_element()?;
         self.switch_to(Mode::InFrameset);
-        Ok(())
+        self.insert_element()
     }
 
     /// A block, as `p` and `div`.
@@ -93,10 +91,9 @@ impl<'a> Builder<'a> {
         ensures token { token_of self.new ≡ token_of self.old }
     {
         self.close_p()?;
-        self.insert_element()?;
         self.frameset_not_ok();
         self.ignore_line_feed();
-        Ok(())
+        self.insert_element()
     }
 
     // A form element, to which the form element pointer points.
@@ -237,9 +234,8 @@ impl<'a> Builder<'a> {
         ensures token { token_of self.new ≡ token_of self.old }
     {
         self.ordinary_start()?;
-        self.insert_marker()?;
         self.frameset_not_ok();
-        Ok(())
+        self.insert_marker()
     }
 
     /// `table`.
@@ -251,10 +247,9 @@ impl<'a> Builder<'a> {
         if !self.has_quirks() {
             self.close_p()?;
         }
-        self.insert_element()?;
         self.frameset_not_ok();
         self.switch_to(Mode::InTable);
-        Ok(())
+        self.insert_element()
     }
 
     /// An element without content, as `br` and `embed`.
@@ -264,9 +259,8 @@ impl<'a> Builder<'a> {
         ensures token { token_of self.new ≡ token_of self.old }
     {
         self.reconstruct_formatting()?;
-        self.insert_and_pop()?;
         self.frameset_not_ok();
-        Ok(())
+        self.insert_and_pop()
     }
 
     /// `image`, which is an `img`.
@@ -277,9 +271,8 @@ impl<'a> Builder<'a> {
         ensures token { token_of self.new ≡ token_of self.old }
     {
         self.reconstruct_formatting()?;
-        self.insert_and_pop_as(b"img")?;
         self.frameset_not_ok();
-        Ok(())
+        self.insert_and_pop_as(b"img")
     }
 
     fn input_inserted(&mut self) -> Result<(), GrowError>
@@ -341,9 +334,8 @@ impl<'a> Builder<'a> {
         ensures token { token_of self.new ≡ token_of self.old }
     {
         self.frameset_not_ok();
-        self.parse_raw_text()?;
         self.ignore_line_feed();
-        Ok(())
+        self.parse_raw_text()
     }
 
     /// `xmp`.

@@ -6,13 +6,11 @@ use std::alloc::{AllocError, AllocFailed};
 use thiserror::Error;
 
 /// Why nothing more could be put in a store, or in what is built over it.
-#[derive(Clone, Copy, PartialEq, Eq, Debug, Error)]
+#[derive(Clone, Copy)]
 pub(crate) enum GrowError {
     /// Memory ran out.
-    #[error("out of memory")]
     OutOfMemory,
     /// The page or its tree is too large for numbers of 32 bits.
-    #[error("too large")]
     TooLarge,
 }
 

@@ -1,5 +1,5 @@
 //! What is read becomes its tree.
-ghost use Rattle.std.specs.Prelude.{IfOk, IsTrue, ◌≡◌};
+ghost use Rattle.std.specs.Prelude.{IfOk, IsTrue, length, ◌≡◌};
 ghost use Rattle.tl_dom_spec.specs.HtmlTree.{trees_in};
 ghost use Rattle.tl_dom_spec.specs.Path.{joined, popped_to, top};
 ghost use Rattle.tl_tree.specs.Inner.Builders.{builder_of};
@@ -77,8 +77,8 @@ impl<'a> Builder<'a> {
             ≡ rows_of
             (trees_in (top (popped_to (test_of test.entry) (builder_of self.entry).path)))) }
         ensures sources { IfOk result (λ tree. bounds_in tree.sources ≡ bounds_in sources) }
-        ensures page { IfOk result
-            (λ tree. tree.store.page.now ≡ self.entry.path.store.page.now) }
+        ensures end { IfOk result
+            (λ tree. tree.page_end ≡ length self.entry.path.store.page.now) }
         ensures quirks { IfOk result
             (λ tree. tree.is_quirks ≡ (builder_of self.entry).is_quirks) }
     {

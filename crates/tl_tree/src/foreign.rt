@@ -55,8 +55,7 @@ impl<'a> Builder<'a> {
             self.broken_out()?;
             return self.html_step(Token::Start { group, closes });
         }
-        self.insert_adjusted_element(closes)?;
-        Ok(Outcome::Done)
+        Outcome::Done.after(self.insert_adjusted_element(closes))
     }
 
     // An end tag, by what its name finds on the stack.
@@ -71,10 +70,7 @@ impl<'a> Builder<'a> {
         ensures token { token_of self.new ≡ token_of self.old }
     {
         match found {
-            Found::Frame(number) => {
-                self.pop_number(number)?;
-                Ok(Outcome::Done)
-            }
+            Found::Frame(number) => Outcome::Done.after(self.pop_number(number)),
             Found::ByMode => self.html_step(Token::End { group, name }),
             Found::Nothing => Ok(Outcome::Done),
         }
@@ -122,13 +118,12 @@ impl<'a> Builder<'a> {
         ensures token { token_of self.new ≡ token_of self.old }
     {
         match token {
-            Token::Character(byte) => self.foreign_character(byte)?,
-            Token::Comment => self.insert_comment()?,
-            Token::Doctype => {}
-            Token::Start { group, closes } => return self.foreign_content_start(group, closes),
-            Token::End { group, name } => return self.foreign_end(group, name),
-            Token::EndOfFile => return self.html_step(token),
+            Token::Character(byte) => Outcome::Done.after(self.foreign_character(byte)),
+            Token::Comment => self.comment_inserted(),
+            Token::Doctype => Ok(Outcome::Done),
+            Token::Start { group, closes } => self.foreign_content_start(group, closes),
+            Token::End { group, name } => self.foreign_end(group, name),
+            Token::EndOfFile => self.html_step(token),
         }
-        Ok(Outcome::Done)
     }
 }

@@ -1,5 +1,5 @@
 //! What a token of the page says, held by the builder while it is processed.
-ghost use Rattle.std.specs.Prelude.{IfOk, IsTrue, OnOk, Some, length, ◌<◌, ◌≡◌, ◌≤◌};
+ghost use Rattle.std.specs.Prelude.{IfOk, IsTrue, Some, length, ◌<◌, ◌≡◌, ◌≤◌};
 ghost use Rattle.tl_dom_spec.specs.Groups.{group};
 ghost use Rattle.tl_dom_spec.specs.Tags.{has_value, html_tag};
 ghost use Rattle.tl_html_parts.specs.Parts.{attributes_of, name_of};
@@ -33,8 +33,8 @@ pub(crate) fn tag_group(store: &Store<'_>, number: u32) -> Group
 }
 
 impl<'a> Builder<'a> {
-    // Puts a start tag of the page in the store, with its number.
-    fn add_start_tag(
+    /// Puts a start tag of the page in the store, with its number.
+    pub(crate) fn add_start_tag(
         &mut self,
         alloc: Global,
         room: &mut Vec<AttributeEntry>,
@@ -77,8 +77,13 @@ impl<'a> Builder<'a> {
         self.path.add_text(alloc, mode, start, end)
     }
 
-    // The data of a comment, as bytes of the store.
-    fn add_comment(&mut self, alloc: Global, start: usize, end: usize) -> Result<Span, GrowError>
+    /// The data of a comment, as bytes of the store.
+    pub(crate) fn add_comment(
+        &mut self,
+        alloc: Global,
+        start: usize,
+        end: usize,
+    ) -> Result<Span, GrowError>
         requires order { start ≤ end }
         requires within { end ≤ length self.old.path.store.page.now }
         ensures ok { builder_of self.new ≡ builder_of self.old }
@@ -90,8 +95,13 @@ impl<'a> Builder<'a> {
         self.path.add_comment(alloc, start, end)
     }
 
-    // Puts a doctype of the page in the store, and answers its number.
-    fn add_doctype_of(&mut self, alloc: Global, start: usize, end: usize) -> Result<u32, GrowError>
+    /// Puts a doctype of the page in the store, and answers its number.
+    pub(crate) fn add_doctype_of(
+        &mut self,
+        alloc: Global,
+        start: usize,
+        end: usize,
+    ) -> Result<u32, GrowError>
         requires order { start ≤ end }
         requires within { end ≤ length self.old.path.store.page.now }
         ensures ok { builder_of self.new ≡ builder_of self.old }
@@ -114,7 +124,8 @@ impl<'a> Builder<'a> {
         self.text = text;
     }
 
-    fn set_doctype(&mut self, doctype: u32)
+    /// The doctype that is held.
+    pub(crate) fn set_doctype(&mut self, doctype: u32)
         requires { doctype < length self.old.path.store.doctypes.items }
         ensures ok { builder_of self.new ≡ builder_of self.old }
         ensures page { (token_of self.new).page ≡ (token_of self.old).page }
@@ -124,9 +135,9 @@ impl<'a> Builder<'a> {
         self.doctype = doctype;
     }
 
-    // The token that is held is the next mark.
+    /// The token that is held is the next mark.
     #[tactic(auto, unfolding(crate::specs::Inner::Builders::builder_of, crate::specs::Inner::Builders::token_of))]
-    fn set_source(&mut self)
+    pub(crate) fn set_source(&mut self)
         ensures ok { builder_of self.new ≡ builder_of self.old }
         ensures token { token_of self.new
             ≡ record (token_of self.old) { source = (builder_of self.old).marks } }
@@ -134,78 +145,11 @@ impl<'a> Builder<'a> {
         self.source = self.marks;
     }
 
-    // The group of the name of the tag that is held.
-    fn held_group(&self) -> Group
+    /// The group of the name of the tag that is held.
+    pub(crate) fn held_group(&self) -> Group
         ensures { group_view result ≡ group (token_of self.now).tag.name }
     {
         tag_group(&self.path.store, self.tag)
-    }
-
-    /// Holds a start tag of the page, and answers the group of its name.
-    pub(crate) fn hold_start_tag(
-        &mut self,
-        alloc: Global,
-        room: &mut Vec<AttributeEntry>,
-        name: PartPlace,
-        attributes: &[AttributePlace],
-    ) -> Result<Group, GrowError>
-        requires name { IsPart name_of self.old.path.store.page.now name }
-        requires attributes { AreParts self.old.path.store.page.now attributes.now }
-        ensures ok { builder_of self.new ≡ builder_of self.old }
-        ensures page { (token_of self.new).page ≡ (token_of self.old).page }
-        ensures tag { OnOk result ((token_of self.new).tag
-            ≡ record (html_tag (name_of (part_in self.old.path.store.page.now name))
-            (attributes_of (pairs_in self.old.path.store.page.now attributes.now))) {
-              source = Some (builder_of self.old).marks;
-            }) }
-        ensures group { IfOk result
-            (λ held. group_view held ≡ group (token_of self.new).tag.name) }
-    {
-        let number = self.add_start_tag(alloc, room, name, attributes)?;
-        self.set_tag(number);
-        Ok(self.held_group())
-    }
-
-    /// Holds a comment of the page.
-    pub(crate) fn hold_comment(
-        &mut self,
-        alloc: Global,
-        start: usize,
-        end: usize,
-    ) -> Result<(), GrowError>
-        requires order { start ≤ end }
-        requires within { end ≤ length self.old.path.store.page.now }
-        ensures ok { builder_of self.new ≡ builder_of self.old }
-        ensures page { (token_of self.new).page ≡ (token_of self.old).page }
-        ensures text { OnOk result ((token_of self.new).text
-            ≡ comment_of (piece_at self.old.path.store.page.now start end)) }
-        ensures source { OnOk result ((token_of self.new).source ≡ (builder_of self.old).marks) }
-    {
-        let text = self.add_comment(alloc, start, end)?;
-        self.set_text(text);
-        self.set_source();
-        Ok(())
-    }
-
-    /// Holds a doctype of the page.
-    pub(crate) fn hold_doctype(
-        &mut self,
-        alloc: Global,
-        start: usize,
-        end: usize,
-    ) -> Result<(), GrowError>
-        requires order { start ≤ end }
-        requires within { end ≤ length self.old.path.store.page.now }
-        ensures ok { builder_of self.new ≡ builder_of self.old }
-        ensures page { (token_of self.new).page ≡ (token_of self.old).page }
-        ensures doctype { OnOk result ((token_of self.new).doctype
-            ≡ doctype_said (piece_at self.old.path.store.page.now start end)) }
-        ensures source { OnOk result ((token_of self.new).source ≡ (builder_of self.old).marks) }
-    {
-        let doctype = self.add_doctype_of(alloc, start, end)?;
-        self.set_doctype(doctype);
-        self.set_source();
-        Ok(())
     }
 
     /// Whether the tag that is held has an attribute of this key with, in any case, this value.

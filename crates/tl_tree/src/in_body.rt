@@ -33,8 +33,7 @@ impl<'a> Builder<'a> {
             ≡ Done (insert_comment (comment_of (token_of self.old)) (builder_of self.old))) }
         ensures token { token_of self.new ≡ token_of self.old }
     {
-        self.insert_comment()?;
-        Ok(Outcome::Done)
+        Outcome::Done.after(self.insert_comment())
     }
 
     /// Inserts the character that the token is, which is done with.
@@ -43,8 +42,7 @@ impl<'a> Builder<'a> {
             ≡ Done (insert_character byte (builder_of self.old))) }
         ensures token { token_of self.new ≡ token_of self.old }
     {
-        self.insert_character(byte)?;
-        Ok(Outcome::Done)
+        Outcome::Done.after(self.insert_character(byte))
     }
 
     pub(crate) fn file_ended(&mut self) -> Result<Outcome, GrowError>
@@ -55,8 +53,7 @@ impl<'a> Builder<'a> {
         if !self.has_template() {
             return Ok(Outcome::Done);
         }
-        self.close_template()?;
-        Ok(Outcome::Again)
+        Outcome::Again.after(self.close_template())
     }
 
     #[inline(always)]
@@ -66,10 +63,7 @@ impl<'a> Builder<'a> {
         ensures token { token_of self.new ≡ token_of self.old }
     {
         match token {
-            Token::Character(byte) => {
-                self.body_character(byte)?;
-                Ok(Outcome::Done)
-            }
+            Token::Character(byte) => Outcome::Done.after(self.body_character(byte)),
             Token::Comment => self.comment_inserted(),
             Token::Doctype => Ok(Outcome::Done),
             Token::Start { group, closes } => self.body_start(group, closes),

@@ -47,10 +47,7 @@ impl<'a> Builder<'a> {
     {
         match group {
             Group::TheHtml => self.html_end(),
-            _ => {
-                self.own_end(group, name)?;
-                Ok(Outcome::Done)
-            }
+            _ => Outcome::Done.after(self.own_end(group, name)),
         }
     }
 }

@@ -95,10 +95,7 @@ impl<'a> Builder<'a> {
             | Group::AStyle
             | Group::ATemplate
             | Group::ATitle => self.in_head_start(group),
-            _ => {
-                self.own_start(group, closes)?;
-                Ok(Outcome::Done)
-            }
+            _ => Outcome::Done.after(self.own_start(group, closes)),
         }
     }
 }

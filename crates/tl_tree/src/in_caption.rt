@@ -18,10 +18,9 @@ impl<'a> Builder<'a> {
         ensures ok { OnOk result (builder_of self.new ≡ caption_closed (builder_of self.old)) }
         ensures token { token_of self.new ≡ token_of self.old }
     {
-        self.close_except_for(TagTest::Nothing, TagTest::Any(Names::Caption))?;
         self.clear_to_last_marker();
         self.switch_to(Mode::InTable);
-        Ok(())
+        self.close_except_for(TagTest::Nothing, TagTest::Any(Names::Caption))
     }
 
     fn after_caption(&mut self) -> Result<Outcome, GrowError>
@@ -32,8 +31,7 @@ impl<'a> Builder<'a> {
         if !self.has_in_table_scope(TagTest::Any(Names::Caption)) {
             return Ok(Outcome::Done);
         }
-        self.caption_closed()?;
-        Ok(Outcome::Again)
+        Outcome::Again.after(self.caption_closed())
     }
 
     // A start tag.
@@ -60,10 +58,8 @@ impl<'a> Builder<'a> {
         ensures token { token_of self.new ≡ token_of self.old }
     {
         match group {
-            Group::ACaption if self.has_in_table_scope(TagTest::Any(Names::Caption)) => {
-                self.caption_closed()?;
-                Ok(Outcome::Done)
-            }
+            Group::ACaption if self.has_in_table_scope(TagTest::Any(Names::Caption)) =>
+                Outcome::Done.after(self.caption_closed()),
             Group::ATable => self.after_caption(),
             Group::ACaption
             | Group::TheBody

@@ -20,10 +20,9 @@ impl<'a> Builder<'a> {
             (builder_of self.new ≡ cell_closed (tag_test_of test.entry) (builder_of self.old)) }
         ensures token { token_of self.new ≡ token_of self.old }
     {
-        self.close_except_for(TagTest::Nothing, test)?;
         self.clear_to_last_marker();
         self.switch_to(Mode::InRow);
-        Ok(())
+        self.close_except_for(TagTest::Nothing, test)
     }
 
     fn after_cell(&mut self) -> Result<Outcome, GrowError>
@@ -34,8 +33,7 @@ impl<'a> Builder<'a> {
         if !self.has_in_table_scope(TagTest::Any(Names::Cells)) {
             return Ok(Outcome::Done);
         }
-        self.cell_closed(TagTest::Any(Names::Cells))?;
-        Ok(Outcome::Again)
+        Outcome::Again.after(self.cell_closed(TagTest::Any(Names::Cells)))
     }
 
     // An end tag of what a cell stands in.
@@ -47,8 +45,7 @@ impl<'a> Builder<'a> {
         if !self.has_in_table_scope(TagTest::Named(name)) {
             return Ok(Outcome::Done);
         }
-        self.cell_closed(TagTest::Any(Names::Cells))?;
-        Ok(Outcome::Again)
+        Outcome::Again.after(self.cell_closed(TagTest::Any(Names::Cells)))
     }
 
     // A start tag.
@@ -75,10 +72,9 @@ impl<'a> Builder<'a> {
         ensures token { token_of self.new ≡ token_of self.old }
     {
         match group {
-            Group::ACell if self.has_in_table_scope(TagTest::Named(name)) => {
-                self.cell_closed(TagTest::Named(name))?;
-                Ok(Outcome::Done)
-            }
+            Group::ACell if self.has_in_table_scope(TagTest::Named(name)) => Outcome::Done.after(
+                self.cell_closed(TagTest::Named(name)),
+            ),
             Group::ACell
             | Group::TheBody
             | Group::ACaption

@@ -1,6 +1,6 @@
 //! "in column group" (13.2.6.4.12).
 ghost use Rattle.std.specs.Prelude.{IfOk, OnOk, ◌≡◌};
-ghost use Rattle.tl_dom_spec.specs.Tables.{after_column_group, column_end, column_group_closed, column_start, in_column_group_step, is_in_column_group};
+ghost use Rattle.tl_dom_spec.specs.Tables.{after_column_group, column_end, column_group_closed, column_start, in_column_group_step};
 ghost use Rattle.tl_tree.specs.Inner.Builders.{builder_of, outcome_of, token_of, token_view};
 ghost use Rattle.tl_tree.specs.Inner.GroupNames.{group_view as group_of};
 
@@ -18,9 +18,8 @@ impl<'a> Builder<'a> {
         ensures ok { OnOk result (builder_of self.new ≡ column_group_closed (builder_of self.old)) }
         ensures token { token_of self.new ≡ token_of self.old }
     {
-        self.pop_current_node()?;
         self.switch_to(Mode::InTable);
-        Ok(())
+        self.pop_current_node()
     }
 
     fn after_column_group(&mut self) -> Result<Outcome, GrowError>
@@ -31,8 +30,7 @@ impl<'a> Builder<'a> {
         if !self.is_current(TagTest::Any(Names::Colgroup)) {
             return Ok(Outcome::Done);
         }
-        self.column_group_closed()?;
-        Ok(Outcome::Again)
+        Outcome::Again.after(self.column_group_closed())
     }
 
     // A start tag.
@@ -42,12 +40,11 @@ impl<'a> Builder<'a> {
         ensures token { token_of self.new ≡ token_of self.old }
     {
         match group {
-            Group::TheHtml => self.html_start()?,
-            Group::AColumn => self.insert_and_pop()?,
-            Group::ATemplate => return self.in_head_start(group),
-            _ => return self.after_column_group(),
+            Group::TheHtml => Outcome::Done.after(self.html_start()),
+            Group::AColumn => Outcome::Done.after(self.insert_and_pop()),
+            Group::ATemplate => self.in_head_start(group),
+            _ => self.after_column_group(),
         }
-        Ok(Outcome::Done)
     }
 
     // An end tag.
@@ -58,13 +55,12 @@ impl<'a> Builder<'a> {
     {
         match group {
             Group::AColumnGroup if self.is_current(TagTest::Any(Names::Colgroup)) => {
-                self.column_group_closed()?
+                Outcome::Done.after(self.column_group_closed())
             }
-            Group::ATemplate => self.template_end_tag()?,
-            Group::AColumnGroup | Group::AColumn => {}
-            _ => return self.after_column_group(),
+            Group::ATemplate => Outcome::Done.after(self.template_end_tag()),
+            Group::AColumnGroup | Group::AColumn => Ok(Outcome::Done),
+            _ => self.after_column_group(),
         }
-        Ok(Outcome::Done)
     }
 
     pub(crate) fn in_column_group(&mut self, token: Token<'_>) -> Result<Outcome, GrowError>

@@ -23,13 +23,12 @@ impl<'a> Builder<'a> {
         ensures token { token_of self.new ≡ token_of self.old }
     {
         match group {
-            Group::TheHtml => self.html_start()?,
-            Group::AFrameset => self.insert_element()?,
-            Group::AFrame => self.insert_and_pop()?,
-            Group::ANoframes => return self.in_head_start(group),
-            _ => {}
+            Group::TheHtml => Outcome::Done.after(self.html_start()),
+            Group::AFrameset => Outcome::Done.after(self.insert_element()),
+            Group::AFrame => Outcome::Done.after(self.insert_and_pop()),
+            Group::ANoframes => self.in_head_start(group),
+            _ => Ok(Outcome::Done),
         }
-        Ok(Outcome::Done)
     }
 
     fn frameset_closed(&mut self) -> Result<(), GrowError>
@@ -75,12 +74,11 @@ impl<'a> Builder<'a> {
         ensures token { token_of self.new ≡ token_of self.old }
     {
         match token {
-            Token::Character(byte) => self.insert_whitespace(byte)?,
-            Token::Comment => self.insert_comment()?,
-            Token::Start { group, closes: _ } => return self.in_frameset_start(group),
-            Token::End { group, name: _ } => self.frameset_end(group)?,
-            Token::Doctype | Token::EndOfFile => {}
+            Token::Character(byte) => Outcome::Done.after(self.insert_whitespace(byte)),
+            Token::Comment => self.comment_inserted(),
+            Token::Start { group, closes: _ } => self.in_frameset_start(group),
+            Token::End { group, name: _ } => Outcome::Done.after(self.frameset_end(group)),
+            Token::Doctype | Token::EndOfFile => Ok(Outcome::Done),
         }
-        Ok(Outcome::Done)
     }
 }

@@ -20,9 +20,8 @@ impl<'a> Builder<'a> {
         ensures ok { OnOk result (builder_of self.new ≡ head_closed (builder_of self.old)) }
         ensures token { token_of self.new ≡ token_of self.old }
     {
-        self.pop_current_node()?;
         self.switch_to(Mode::AfterHead);
-        Ok(())
+        self.pop_current_node()
     }
 
     // The same, and the token is processed again.
@@ -31,8 +30,7 @@ impl<'a> Builder<'a> {
             ≡ Again (head_closed (builder_of self.old))) }
         ensures token { token_of self.new ≡ token_of self.old }
     {
-        self.head_closed()?;
-        Ok(Outcome::Again)
+        Outcome::Again.after(self.head_closed())
     }
 
     /// A start tag of `template`, whose element goes to a place.
@@ -44,9 +42,8 @@ impl<'a> Builder<'a> {
         self.insert_marker()?;
         self.frameset_not_ok();
         self.insert_element_at(place)?;
-        self.push_template_mode(Mode::InTemplate)?;
         self.switch_to(Mode::InTemplate);
-        Ok(())
+        self.push_template_mode(Mode::InTemplate)
     }
 
     // The same, where it stands.
@@ -69,9 +66,8 @@ impl<'a> Builder<'a> {
         if self.is_scripting() {
             return self.parse_raw_text();
         }
-        self.insert_element()?;
         self.switch_to(Mode::InHeadNoscript);
-        Ok(())
+        self.insert_element()
     }
 
     /// A start tag.
@@ -81,17 +77,16 @@ impl<'a> Builder<'a> {
         ensures token { token_of self.new ≡ token_of self.old }
     {
         match group {
-            Group::TheHtml => self.html_start()?,
-            Group::TheHead => {}
-            Group::ANoscript => self.noscript_in_head()?,
-            Group::ABase | Group::ALink => self.insert_and_pop()?,
+            Group::TheHtml => Outcome::Done.after(self.html_start()),
+            Group::TheHead => Ok(Outcome::Done),
+            Group::ANoscript => Outcome::Done.after(self.noscript_in_head()),
+            Group::ABase | Group::ALink => Outcome::Done.after(self.insert_and_pop()),
             Group::ATitle | Group::ANoframes | Group::AStyle | Group::AScript => {
-                self.parse_raw_text()?
+                Outcome::Done.after(self.parse_raw_text())
             }
-            Group::ATemplate => self.template_opened_here()?,
-            _ => return self.head_left(),
+            Group::ATemplate => Outcome::Done.after(self.template_opened_here()),
+            _ => self.head_left(),
         }
-        Ok(Outcome::Done)
     }
 
     fn in_head_end(&mut self, group: Group) -> Result<Outcome, GrowError>
@@ -100,15 +95,15 @@ impl<'a> Builder<'a> {
         ensures token { token_of self.new ≡ token_of self.old }
     {
         match group {
-            Group::TheHead => self.head_closed()?,
-            Group::ATemplate => self.template_end_tag()?,
+            Group::TheHead => Outcome::Done.after(self.head_closed()),
+            Group::ATemplate => Outcome::Done.after(self.template_end_tag()),
             _ => {
                 if is_body_end(group) {
                     return self.head_left();
                 }
+                Ok(Outcome::Done)
             }
         }
-        Ok(Outcome::Done)
     }
 
     pub(crate) fn in_head(&mut self, token: Token<'_>) -> Result<Outcome, GrowError>

@@ -17,9 +17,8 @@ impl<'a> Builder<'a> {
         ensures ok { OnOk result (builder_of self.new ≡ noscript_closed (builder_of self.old)) }
         ensures token { token_of self.new ≡ token_of self.old }
     {
-        self.pop_current_node()?;
         self.switch_to(Mode::InHead);
-        Ok(())
+        self.pop_current_node()
     }
 
     // The same, and the token is processed again.
@@ -28,8 +27,7 @@ impl<'a> Builder<'a> {
             ≡ Again (noscript_closed (builder_of self.old))) }
         ensures token { token_of self.new ≡ token_of self.old }
     {
-        self.noscript_closed()?;
-        Ok(Outcome::Again)
+        Outcome::Again.after(self.noscript_closed())
     }
 
     fn noscript_start(&mut self, group: Group) -> Result<Outcome, GrowError>
@@ -38,10 +36,7 @@ impl<'a> Builder<'a> {
         ensures token { token_of self.new ≡ token_of self.old }
     {
         match group {
-            Group::TheHtml => {
-                self.html_start()?;
-                Ok(Outcome::Done)
-            }
+            Group::TheHtml => Outcome::Done.after(self.html_start()),
             Group::ALink | Group::ANoframes | Group::AStyle => self.in_head_start(group),
             Group::TheHead | Group::ANoscript => Ok(Outcome::Done),
             _ => self.noscript_left(),
@@ -54,10 +49,7 @@ impl<'a> Builder<'a> {
         ensures token { token_of self.new ≡ token_of self.old }
     {
         match group {
-            Group::ANoscript => {
-                self.noscript_closed()?;
-                Ok(Outcome::Done)
-            }
+            Group::ANoscript => Outcome::Done.after(self.noscript_closed()),
             Group::ABreak => self.noscript_left(),
             _ => Ok(Outcome::Done),
         }

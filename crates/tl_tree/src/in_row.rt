@@ -22,9 +22,8 @@ impl<'a> Builder<'a> {
         ensures token { token_of self.new ≡ token_of self.old }
     {
         self.clear_stack_back_to(TABLE_ROW_CONTEXT)?;
-        self.pop_current_node()?;
         self.switch_to(Mode::InTableBody);
-        Ok(())
+        self.pop_current_node()
     }
 
     fn after_row(&mut self) -> Result<Outcome, GrowError>
@@ -35,8 +34,7 @@ impl<'a> Builder<'a> {
         if !self.has_in_table_scope(TagTest::Any(Names::Row)) {
             return Ok(Outcome::Done);
         }
-        self.row_closed()?;
-        Ok(Outcome::Again)
+        Outcome::Again.after(self.row_closed())
     }
 
     // A start tag.
@@ -48,8 +46,7 @@ impl<'a> Builder<'a> {
         match group {
             Group::ACell => {
                 self.open_in(TABLE_ROW_CONTEXT, Mode::InCell)?;
-                self.insert_marker()?;
-                Ok(Outcome::Done)
+                Outcome::Done.after(self.insert_marker())
             }
             Group::ACaption
             | Group::AColumn
@@ -67,10 +64,9 @@ impl<'a> Builder<'a> {
         ensures token { token_of self.new ≡ token_of self.old }
     {
         match group {
-            Group::ARow if self.has_in_table_scope(TagTest::Any(Names::Row)) => {
-                self.row_closed()?;
-                Ok(Outcome::Done)
-            }
+            Group::ARow if self.has_in_table_scope(TagTest::Any(Names::Row)) => Outcome::Done.after(
+                self.row_closed(),
+            ),
             Group::ATable => self.after_row(),
             Group::ATableBody if self.has_in_table_scope(TagTest::Named(name)) => self.after_row(),
             Group::ARow | Group::ATableBody => Ok(Outcome::Done),

@@ -51,9 +51,8 @@ impl<'a> Builder<'a> {
         ensures token { token_of self.new ≡ token_of self.old }
     {
         self.clear_stack_back_to(context)?;
-        self.insert_element()?;
         self.switch_to(mode);
-        Ok(())
+        self.insert_element()
     }
 
     /// The same for an element whose start tag is missing. The token is reprocessed.
@@ -70,9 +69,8 @@ impl<'a> Builder<'a> {
         ensures token { token_of self.new ≡ token_of self.old }
     {
         self.clear_stack_back_to(context)?;
-        self.insert_implied(name)?;
         self.switch_to(mode);
-        Ok(Outcome::Again)
+        Outcome::Again.after(self.insert_implied(name))
     }
 
     // The number of the next element.
@@ -92,9 +90,8 @@ impl<'a> Builder<'a> {
             return Ok(());
         }
         let number = self.next_number();
-        self.insert_and_pop()?;
         self.set_form(Some(number));
-        Ok(())
+        self.insert_and_pop()
     }
 
     /// A start tag.
@@ -106,28 +103,30 @@ impl<'a> Builder<'a> {
         match group {
             Group::ACaption => {
                 self.open_in(TABLE_CONTEXT, Mode::InCaption)?;
-                self.insert_marker()?;
+                Outcome::Done.after(self.insert_marker())
             }
-            Group::AColumnGroup => self.open_in(TABLE_CONTEXT, Mode::InColumnGroup)?,
-            Group::ATableBody => self.open_in(TABLE_CONTEXT, Mode::InTableBody)?,
-            Group::AForm => self.table_form()?,
-            Group::AColumn => {
-                return self.imply_in(TABLE_CONTEXT, b"colgroup", Mode::InColumnGroup);
+            Group::AColumnGroup => {
+                Outcome::Done.after(self.open_in(TABLE_CONTEXT, Mode::InColumnGroup))
             }
+            Group::ATableBody => {
+                Outcome::Done.after(self.open_in(TABLE_CONTEXT, Mode::InTableBody))
+            }
+            Group::AForm => Outcome::Done.after(self.table_form()),
+            Group::AColumn => self.imply_in(TABLE_CONTEXT, b"colgroup", Mode::InColumnGroup),
             Group::ACell | Group::ARow => {
-                return self.imply_in(TABLE_CONTEXT, b"tbody", Mode::InTableBody);
+                self.imply_in(TABLE_CONTEXT, b"tbody", Mode::InTableBody)
             }
             Group::ATable if self.has_in_table_scope(TagTest::Any(Names::Table)) => {
-                self.table_closed()?;
-                return Ok(Outcome::Again);
+                Outcome::Again.after(self.table_closed())
             }
-            Group::ATable => {}
+            Group::ATable => Ok(Outcome::Done),
             // An input that is hidden stays in the table.
-            Group::AnInput if self.token_has_value(b"type", b"hidden") => self.insert_and_pop()?,
-            Group::AStyle | Group::AScript | Group::ATemplate => return self.in_head_start(group),
-            _ => return self.with_foster_parenting(Token::Start { group, closes }),
+            Group::AnInput if self.token_has_value(b"type", b"hidden") => {
+                Outcome::Done.after(self.insert_and_pop())
+            }
+            Group::AStyle | Group::AScript | Group::ATemplate => self.in_head_start(group),
+            _ => self.with_foster_parenting(Token::Start { group, closes }),
         }
-        Ok(Outcome::Done)
     }
 
     /// An end tag.
@@ -138,9 +137,9 @@ impl<'a> Builder<'a> {
     {
         match group {
             Group::ATable if self.has_in_table_scope(TagTest::Any(Names::Table)) => {
-                self.table_closed()?
+                Outcome::Done.after(self.table_closed())
             }
-            Group::ATemplate => self.template_end_tag()?,
+            Group::ATemplate => Outcome::Done.after(self.template_end_tag()),
             Group::ATable
             | Group::TheBody
             | Group::ACaption
@@ -149,10 +148,9 @@ impl<'a> Builder<'a> {
             | Group::TheHtml
             | Group::ATableBody
             | Group::ACell
-            | Group::ARow => {}
-            _ => return self.with_foster_parenting(Token::End { group, name }),
+            | Group::ARow => Ok(Outcome::Done),
+            _ => self.with_foster_parenting(Token::End { group, name }),
         }
-        Ok(Outcome::Done)
     }
 
     fn table_character(&mut self, byte: u8) -> Result<Outcome, GrowError>

@@ -22,9 +22,8 @@ impl<'a> Builder<'a> {
         ensures token { token_of self.new ≡ token_of self.old }
     {
         self.clear_stack_back_to(TABLE_BODY_CONTEXT)?;
-        self.pop_current_node()?;
         self.switch_to(Mode::InTable);
-        Ok(())
+        self.pop_current_node()
     }
 
     fn after_table_body(&mut self) -> Result<Outcome, GrowError>
@@ -35,8 +34,7 @@ impl<'a> Builder<'a> {
         if !self.has_in_table_scope(TagTest::Any(Names::Sections)) {
             return Ok(Outcome::Done);
         }
-        self.body_closed()?;
-        Ok(Outcome::Again)
+        Outcome::Again.after(self.body_closed())
     }
 
     // A start tag.
@@ -47,10 +45,7 @@ impl<'a> Builder<'a> {
         ensures token { token_of self.new ≡ token_of self.old }
     {
         match group {
-            Group::ARow => {
-                self.open_in(TABLE_BODY_CONTEXT, Mode::InRow)?;
-                Ok(Outcome::Done)
-            }
+            Group::ARow => Outcome::Done.after(self.open_in(TABLE_BODY_CONTEXT, Mode::InRow)),
             Group::ACell => self.imply_in(TABLE_BODY_CONTEXT, b"tr", Mode::InRow),
             Group::ACaption | Group::AColumn | Group::AColumnGroup | Group::ATableBody => {
                 self.after_table_body()
@@ -66,10 +61,8 @@ impl<'a> Builder<'a> {
         ensures token { token_of self.new ≡ token_of self.old }
     {
         match group {
-            Group::ATableBody if self.has_in_table_scope(TagTest::Named(name)) => {
-                self.body_closed()?;
-                Ok(Outcome::Done)
-            }
+            Group::ATableBody if self.has_in_table_scope(TagTest::Named(name)) =>
+                Outcome::Done.after(self.body_closed()),
             Group::ATableBody => Ok(Outcome::Done),
             Group::ATable => self.after_table_body(),
             _ => self.table_end(group, name),

@@ -45,9 +45,8 @@ impl<'a> Builder<'a> {
             (builder_of self.new ≡ template_turned (mode_of mode) (builder_of self.old)) }
         ensures token { token_of self.new ≡ token_of self.old }
     {
-        self.set_template_mode(mode)?;
         self.switch_to(mode);
-        Ok(())
+        self.set_template_mode(mode)
     }
 
     // A start tag.
@@ -64,10 +63,7 @@ impl<'a> Builder<'a> {
             | Group::AStyle
             | Group::ATemplate
             | Group::ATitle => self.in_head_start(group),
-            _ => {
-                self.template_turned(template_mode(group))?;
-                Ok(Outcome::Again)
-            }
+            _ => Outcome::Again.after(self.template_turned(template_mode(group))),
         }
     }
 
@@ -77,10 +73,10 @@ impl<'a> Builder<'a> {
             ≡ template_end (builder_of self.old) (group_of group)) }
         ensures token { token_of self.new ≡ token_of self.old }
     {
-        if let Group::ATemplate = group {
-            self.template_end_tag()?;
+        match group {
+            Group::ATemplate => Outcome::Done.after(self.template_end_tag()),
+            _ => Ok(Outcome::Done),
         }
-        Ok(Outcome::Done)
     }
 
     pub(crate) fn in_template(&mut self, token: Token<'_>) -> Result<Outcome, GrowError>

@@ -14,9 +14,8 @@ impl<'a> Builder<'a> {
         ensures token { token_of self.new ≡ token_of self.old }
     {
         let original = self.original();
-        self.pop_current_node()?;
         self.switch_to(original);
-        Ok(())
+        self.pop_current_node()
     }
 
     pub(crate) fn in_text(&mut self, token: Token<'_>) -> Result<Outcome, GrowError>
@@ -25,18 +24,9 @@ impl<'a> Builder<'a> {
         ensures token { token_of self.new ≡ token_of self.old }
     {
         match token {
-            Token::Character(byte) => {
-                self.insert_character(byte)?;
-                Ok(Outcome::Done)
-            }
-            Token::EndOfFile => {
-                self.text_closed()?;
-                Ok(Outcome::Again)
-            }
-            _ => {
-                self.text_closed()?;
-                Ok(Outcome::Done)
-            }
+            Token::Character(byte) => Outcome::Done.after(self.insert_character(byte)),
+            Token::EndOfFile => Outcome::Again.after(self.text_closed()),
+            _ => Outcome::Done.after(self.text_closed()),
         }
     }
 }

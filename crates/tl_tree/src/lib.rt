@@ -77,6 +77,7 @@ mod more_attributes;
 mod names;
 mod node;
 mod outcome;
+mod owned;
 mod path;
 mod pending;
 mod places;

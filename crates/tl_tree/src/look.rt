@@ -2,7 +2,7 @@
 //! name.
 ghost use Rattle.std.specs.Prelude.{IsTrue, ◌≡◌};
 ghost use Rattle.tl_tree.specs.Inner.Looks.{key_of, look_of, read_on};
-ghost use Rattle.tl_tree.specs.Inner.Store.{bytes_of, is_tag, is_tag_number, tag_at, tag_of};
+ghost use Rattle.tl_tree.specs.Inner.Store.{is_tag, is_tag_number, tag_at, tag_of};
 
 use crate::alike::attributes;
 use crate::entries::TagEntry;

@@ -118,10 +118,7 @@ impl<'a> Builder<'a> {
     {
         match token {
             Token::Character(0) => Ok(Outcome::Done),
-            Token::Character(byte) => {
-                self.push_pending(byte)?;
-                Ok(Outcome::Done)
-            }
+            Token::Character(byte) => Outcome::Done.after(self.push_pending(byte)),
             _ => {
                 let mode = self.original();
                 self.pending_inserted()?;

@@ -50,9 +50,8 @@ impl<'a> Builder<'a> {
             ≡ parse_raw_text_at (place_of place) (token_of self.old).tag (builder_of self.old)) }
         ensures token { token_of self.new ≡ token_of self.old }
     {
-        self.insert_element_at(place)?;
         self.enter_text();
-        Ok(())
+        self.insert_element_at(place)
     }
 
     /// Inserts an element for the token, whose text has no markup.

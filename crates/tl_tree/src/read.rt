@@ -1,5 +1,5 @@
 //! Pages and fragments are read into trees.
-ghost use Rattle.std.specs.Prelude.{Err, IfOk, false, true, ◌≡◌, ℕ};
+ghost use Rattle.std.specs.Prelude.{Err, IfOk, false, length, true, ◌<◌, ◌^◌, ◌≡◌, ℕ};
 ghost use Rattle.tl_dom_spec.specs.HtmlTree.{fragment_read, html_fragment_by, html_tree_by, is_fragment_in_proportion_by, is_in_proportion_by};
 ghost use Rattle.tl_tree.specs.Contexts.{context_of};
 ghost use Rattle.tl_tree.specs.Inner.Builders.{flags_of};
@@ -37,13 +37,10 @@ impl<'p> Tree<'p> {
             is_in_proportion_by (flags_of flags) page.now ≡ false }
         ensures place { (at : ℕ) → result ≡ Err (ReadError.OutOfProportion at) →
             IsOutOfProportionAt page.now (page_begin (flags_of flags) page.now) at }
+        ensures short { IfOk result (λ _. length page.now < 2 ^ 32) }
     {
-        let mut reader = Reader::new(alloc, page, flags)?;
-        reader.read()?;
-        let tree = reader
-            .builder
-            .into_tree(alloc, reader.sources, Test::Nothing)?;
-        Ok(tree)
+        let reader = Reader::new(alloc, page, flags)?;
+        reader.into_tree(Test::Nothing)
     }
 
     /// The trees that the HTML standard builds of a text in a context element (13.4), read once:
@@ -73,12 +70,9 @@ impl<'p> Tree<'p> {
         ensures place { (at : ℕ) → result ≡ Err (ReadError.OutOfProportion at) →
             IsOutOfProportionAt text.now
             (fragment_begin (flags_of flags) (context_of context.entry)) at }
+        ensures short { IfOk result (λ _. length text.now < 2 ^ 32) }
     {
-        let mut reader = Reader::for_fragment(alloc, text, context, flags)?;
-        reader.read()?;
-        let tree = reader
-            .builder
-            .into_tree(alloc, reader.sources, Test::Number(1))?;
-        Ok(tree)
+        let reader = Reader::for_fragment(alloc, text, context, flags)?;
+        reader.into_tree(Test::Number(1))
     }
 }

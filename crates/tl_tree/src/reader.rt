@@ -7,7 +7,9 @@ use crate::entries::AttributeEntry;
 use crate::error::{GrowError, ReadError};
 use crate::places::Places;
 use crate::source::{begun, keep_source};
+use crate::test::Test;
 use crate::token::Token;
+use crate::tree::Tree;
 use std::alloc::{AllocError, Global};
 use tl_html_parts::{AttributePlace, TagFront, front_parts, next_tag, with_feeds};
 use tl_html_tokens::{Front, Mode, Section, TokenKind, mark_len, next_section, next_token};
@@ -124,19 +126,23 @@ fn tag_in_front(
 }
 
 impl<'p> Reader<'p> {
-    ghost use Rattle.std.specs.Prelude.{Err, None, OnOk, ◌+◌, ◌<◌, false, true, ℕ};
+    ghost use Rattle.std.specs.Prelude.{Err, None, OnOk, ◌+◌, ◌<◌, ◌^◌, false, true, ℕ};
     ghost use Rattle.tl_dom_spec.specs.Builder.{end_of_file};
     ghost use Rattle.tl_dom_spec.specs.Dispatcher.{token_done};
     ghost use Rattle.tl_dom_spec.specs.Driver.{builder};
-    ghost use Rattle.tl_dom_spec.specs.HtmlTree.{fragment_read, is_little, page_read};
+    ghost use Rattle.tl_dom_spec.specs.HtmlTree.{fragment_read, is_little, page_read, trees_in};
+    ghost use Rattle.tl_dom_spec.specs.Path.{popped_to, top};
     ghost use Rattle.tl_html_tokens.specs.Driving.{opens_section};
     ghost use Rattle.tl_html_tokens.specs.Fronts.{IsFront};
     ghost use Rattle.tl_html_tokens.specs.Sections.{IsSection, begin_len};
     ghost use Rattle.tl_tree.specs.Contexts.{context_of};
     ghost use Rattle.tl_tree.specs.Inner.Builders.{builder_of, flags_of};
+    ghost use Rattle.tl_tree.specs.Inner.Frames.{test_of};
     ghost use Rattle.tl_tree.specs.Inner.Reading.{left_of};
     ghost use Rattle.tl_tree.specs.Inner.Sourced.{AreSources, IsSourced, TakesNext};
+    ghost use Rattle.tl_tree.specs.Rows.{rows_of};
     ghost use Rattle.tl_tree.specs.Sources.{IsOutOfProportionAt, Reached, bounds_in, fragment_begin, page_begin};
+    ghost use Rattle.tl_tree.specs.TreeView.{rows_in};
 
     /// Before the first token of a page.
     pub(crate) fn new(alloc: Global, page: &'p [u8], flags: Flags) -> Result<Reader<'p>, GrowError>
@@ -366,5 +372,32 @@ impl<'p> Reader<'p> {
         self.read_on()?;
         self.builder.take_token(Token::EndOfFile)?;
         self.weigh()
+    }
+
+    /// Reads the page to its end. The tree of what then stands in the innermost frame that passes a
+    /// test, or in the document.
+    pub(crate) fn into_tree(mut self, test: Test<'_>) -> Result<Tree<'p>, ReadError>
+        ensures tree { IfOk result (λ tree. rows_in tree
+            ≡ rows_of (trees_in (top (popped_to (test_of test.entry)
+            (token_done (left_of self.entry) end_of_file).path)))) }
+        ensures quirks { IfOk result (λ tree.
+            tree.is_quirks ≡ (token_done (left_of self.entry) end_of_file).is_quirks) }
+        ensures sources { IfOk result (λ tree. (begin : Reached) → IsSourced begin self.entry →
+            AreSources self.entry.page.now begin (token_done (left_of self.entry) end_of_file)
+            (bounds_in tree.sources)) }
+        ensures end { IfOk result (λ tree. tree.page_end ≡ length self.entry.page.now) }
+        ensures little { IfOk result
+            (λ _. is_little (token_done (left_of self.entry) end_of_file).excess ≡ true) }
+        ensures large { (at : ℕ) → result ≡ Err (ReadError.OutOfProportion at) →
+            is_little (token_done (left_of self.entry) end_of_file).excess ≡ false }
+        ensures place { (at : ℕ) → result ≡ Err (ReadError.OutOfProportion at) →
+            (begin : Reached) → IsSourced begin self.entry →
+            is_little (builder_of self.entry.builder).excess ≡ true →
+            IsOutOfProportionAt self.entry.page.now begin at }
+        ensures short { IfOk result (λ _. length self.entry.page.now < 2 ^ 32) }
+    {
+        self.read()?;
+        let tree = self.builder.into_tree(self.alloc, self.sources, test)?;
+        Ok(tree)
     }
 }

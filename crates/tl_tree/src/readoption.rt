@@ -3,7 +3,7 @@
 //! Others may rely on this: each operation says which frames there are afterwards (`frames_of`),
 //! and which number is next.
 ghost use Rattle.std.specs.List.{insert, list_all, list_any};
-ghost use Rattle.std.specs.Option.{option_map, unwrap_or};
+ghost use Rattle.std.specs.Option.{unwrap_or};
 ghost use Rattle.std.specs.Prelude.{IfOk, IfSome, IsTrue, None, OnOk, drop, false, if◌then◌else◌, length, map, min, reverse, take, true, ℕ, ◌++◌, ◌+◌, ◌<◌, ◌==◌, ◌^◌, ◌≡◌, ◌≤◌};
 ghost use Rattle.tl_dom_spec.specs.Adoption.{first, moved_place, outermost, outside_of};
 ghost use Rattle.tl_dom_spec.specs.Path.{elements, here, popped_while};

@@ -116,7 +116,7 @@ fn set_place(places: &mut Vec<u32>, number: u32, place: u32) -> Result<(), GrowE
 
 impl Scopes {
     ghost use Rattle.std.specs.List.{list_any};
-    ghost use Rattle.std.specs.Prelude.{IfOk, IfSome, IsErr, None, Some, [], false, map, slice_get, take, true, ◌+◌, ◌++◌, ◌-◌, ◌∷◌};
+    ghost use Rattle.std.specs.Prelude.{IfSome, IsErr, None, Some, [], false, map, slice_get, take, true, ◌+◌, ◌++◌, ◌-◌, ◌∷◌};
     ghost use Rattle.tl_tree.specs.Inner.Entered.{entered, turned};
     ghost use Rattle.tl_tree.specs.Inner.Roles.{is_numbered, is_within};
 

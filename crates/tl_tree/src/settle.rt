@@ -6,15 +6,14 @@
 ghost use Rattle.std.specs.Bool.{IsTrue};
 ghost use Rattle.std.specs.List.{list_all};
 ghost use Rattle.std.specs.Option.{MatchOption};
-ghost use Rattle.std.specs.Prelude.{IfOk, IfSome, OnOk, [], length, ◌+◌, ◌++◌, ◌<◌, ◌≡◌, ◌^◌, ◌∷◌, ◌≤◌};
+ghost use Rattle.std.specs.Prelude.{IfOk, IfSome, OnOk, [], length, ◌+◌, ◌++◌, ◌<◌, ◌≡◌, ◌^◌, ◌≤◌};
 ghost use Rattle.tl_dom_spec.specs.HtmlForest.{before, has_contents, no_trees};
 ghost use Rattle.tl_dom_spec.specs.Marks.{marked};
 ghost use Rattle.tl_dom_spec.specs.Path.{and_element, joined, no_nodes};
 ghost use Rattle.tl_tree.specs.Inner.Gathering.{closed, gathered, flushed, only_rows, put, with_piece};
-ghost use Rattle.tl_tree.specs.Inner.RowView.{bytes_in, held_in, held_is_within};
-ghost use Rattle.tl_tree.specs.Inner.Settling.{AreRowsOf, Copies, Cuts, Ends, Goes, Pushes, Sound, Turns, Writes, comes_to, flats_of, held_weight, sizes_with, state_of, text_of_pieces, text_with, weight_of};
+ghost use Rattle.tl_tree.specs.Inner.RowView.{held_in, held_is_within};
+ghost use Rattle.tl_tree.specs.Inner.Settling.{AreRowsOf, Copies, Cuts, Ends, Goes, Pushes, Sound, Turns, Writes, comes_to, flats_of, held_weight, sizes_with, state_of, text_of_pieces, weight_of};
 ghost use Rattle.tl_tree.specs.Inner.Store.{bytes_of, is_node, is_row, is_span, is_tag_number, node_of, sizes_of, nodes_of, tag_at, text_of};
-ghost use Rattle.tl_tree.specs.Inner.Within.{span_is_within};
 ghost use Rattle.tl_tree.specs.Rows.{rows_of};
 ghost use Rattle.tl_tree.specs.Sources.{bounds_in};
 ghost use Rattle.tl_tree.specs.TreeView.{rows_in};
@@ -386,9 +385,10 @@ pub(crate) fn tree_of<'p>(
     ensures rows { IfOk result (λ tree.
         rows_in tree ≡ rows_of (before (nodes_of store.entry row) no_trees)) }
     ensures sources { IfOk result (λ tree. bounds_in tree.sources ≡ bounds_in sources) }
-    ensures page { IfOk result (λ tree. tree.store.page.now ≡ store.entry.page.now) }
+    ensures end { IfOk result (λ tree. tree.page_end ≡ length store.entry.page.now) }
     ensures quirks { IfOk result (λ tree. tree.is_quirks ≡ is_quirks) }
 {
+    let page_end = store.page.len();
     let made = settle(alloc, store, row)?;
     let mut store = made.store;
     store.add_bytes(made.copied.as_slice())?;
@@ -398,5 +398,6 @@ pub(crate) fn tree_of<'p>(
         rows: made.rows,
         sources,
         is_quirks,
+        page_end,
     })
 }

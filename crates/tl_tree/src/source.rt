@@ -1,5 +1,5 @@
 //! Where in the page what stands in a tree comes from.
-ghost use Rattle.std.specs.Prelude.{IfOk, IsTrue, OnOk, [], suc, ◌++◌, ◌<◌, ◌^◌, ◌∷◌, ◌≡◌, ◌≤◌};
+ghost use Rattle.std.specs.Prelude.{IfOk, IsTrue, OnOk, [], suc, ◌<◌, ◌^◌, ◌∷◌, ◌≡◌, ◌≤◌};
 ghost use Rattle.tl_tree.specs.Inner.Sourced.{with_source};
 ghost use Rattle.tl_tree.specs.Sources.{bounds_in};
 
@@ -85,7 +85,7 @@ impl<'p> Tree<'p> {
         let before = self.place(marks as usize)?;
         let end = match self.mark(marks) {
             Some(next) => next.start,
-            None => self.store.page.len(),
+            None => self.page_end,
         };
         Some(Source {
             start: before.end,

@@ -3,7 +3,6 @@ ghost use Rattle.std.specs.Prelude.{IfSome, IsTrue, None, [], false, length, sli
 ghost use Rattle.tl_dom_spec.specs.Body.{body_number, from_html};
 ghost use Rattle.tl_dom_spec.specs.Builder.{is_only};
 ghost use Rattle.tl_dom_spec.specs.Path.{document, elements};
-ghost use Rattle.tl_tree.specs.Inner.Adopted.{frame_at};
 ghost use Rattle.tl_tree.specs.Inner.Frames.{changed, frames_of, path_of};
 ghost use Rattle.tl_tree.specs.Inner.Entered.{role_at};
 ghost use Rattle.tl_tree.specs.Inner.Stack.{inner, opened_from, retagged, tag_in};

@@ -50,7 +50,9 @@ impl<'a> Builder<'a> {
             (start_said self.old.path.store.page.now attributes.now tag)) }
         ensures page { (token_of self.new).page ≡ (token_of self.old).page }
     {
-        let group = self.hold_start_tag(alloc, room, tag.name, attributes)?;
+        let number = self.add_start_tag(alloc, room, tag.name, attributes)?;
+        self.set_tag(number);
+        let group = self.held_group();
         self.take_token(Token::Start {
             group,
             closes: tag.closes,
@@ -70,7 +72,9 @@ impl<'a> Builder<'a> {
             (a_comment (unmarked (comment_of (piece_at self.old.path.store.page.now start end))))) }
         ensures page { (token_of self.new).page ≡ (token_of self.old).page }
     {
-        self.hold_comment(alloc, start, end)?;
+        let text = self.add_comment(alloc, start, end)?;
+        self.set_text(text);
+        self.set_source();
         self.take_token(Token::Comment)
     }
 
@@ -88,7 +92,9 @@ impl<'a> Builder<'a> {
             (unmarked (doctype_said (piece_at self.old.path.store.page.now start end))))) }
         ensures page { (token_of self.new).page ≡ (token_of self.old).page }
     {
-        self.hold_doctype(alloc, start, end)?;
+        let doctype = self.add_doctype_of(alloc, start, end)?;
+        self.set_doctype(doctype);
+        self.set_source();
         self.take_token(Token::Doctype)
     }
 

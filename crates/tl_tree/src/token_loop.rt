@@ -107,8 +107,7 @@ impl<'a> Builder<'a> {
     {
         let marks = self.marks_behind(token)?;
         self.take(token)?;
-        self.count_token()?;
         self.set_marks(marks);
-        Ok(())
+        self.count_token()
     }
 }

@@ -18,6 +18,8 @@ pub struct Tree<'p> {
     /// Where the page begins, and where its marks stand, one after the other.
     pub(crate) sources: Places,
     pub(crate) is_quirks: bool,
+    /// Where the page ends.
+    pub(crate) page_end: usize,
     ghost few: { length rows.items < 2 ^ 32 },
     ghost rows_within: { IsTrue
         (list_all

@@ -1,4 +1,4 @@
-use Rattle.std.proofs.Common.{List, ap, get_or, length, map, sym, ◌∙◌, ◌≡◌, ℕ}
+use Rattle.std.proofs.Common.{List, ap, get_or, length, map, sym, ◌∙◌, ℕ}
 use Rattle.std.proofs.lemmas.List.{length-map}
 use Rattle.tl_tree.proofs.Tallies.{look-one, look-other}
 use Rattle.tl_tree.specs.Inner.Looks.{look_by, look_of, read_on}

@@ -1,4 +1,4 @@
-use Rattle.std.proofs.Common.{refl, sym, ◌∙◌, length, ◌-◌, ◌≡◌, ap, ◌+◌, ◌≤◌, List, ℕ, length-drop, drop, take, arith}
+use Rattle.std.proofs.Common.{refl, sym, ◌∙◌, length, ◌-◌, ◌≡◌, ap, List, ℕ, length-drop, drop, take, arith}
 use Rattle.std.proofs.lemmas.List.{length-take-le}
 use Rattle.tl_tree.proofs.SaidTags.{page-bytes}
 use Rattle.tl_tree.specs.Inner.Said.{piece_at}

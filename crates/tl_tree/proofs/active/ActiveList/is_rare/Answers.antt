@@ -1,7 +1,6 @@
-use Rattle.std.proofs.Common.{arith, ap, ◌∙◌}
+use Rattle.std.proofs.Common.{arith, ap}
 use Rattle.std.proofs.lemmas.Bool.{ltb-true}
 use Rattle.tl_tree.proofs.Tallies.{alike-few}
-use Rattle.tl_tree.specs.Inner.Looks.{look_of}
 use Rattle.tl_tree.specs.Inner.Store.{tag_at}
 use Rattle.tl_tree.specs.Inner.Tallied.{counted, has_key}
 use Rattle.tl_tree.specs.declared.look.Key.TheVariants.{Look}

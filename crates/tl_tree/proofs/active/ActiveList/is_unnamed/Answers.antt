@@ -1,4 +1,4 @@
-use Rattle.std.proofs.Common.{arith, ap, ◌∙◌}
+use Rattle.std.proofs.Common.{arith, ap}
 use Rattle.std.proofs.lemmas.Bool.{eqb-true}
 use Rattle.tl_tree.proofs.Tallies.{none-named}
 use Rattle.tl_tree.specs.Inner.Tallied.{counted, has_key}

@@ -1,4 +1,4 @@
-use Rattle.std.proofs.Common.{List, ap, subst, sym, ℕ, ◌∙◌}
+use Rattle.std.proofs.Common.{List, ap, subst, sym, ◌∙◌}
 use Rattle.std.proofs.lemmas.Result.{on_ok_weaker}
 use Rattle.tl_dom_spec.specs.Dispatcher.{token_done}
 use Rattle.tl_html_parts.specs.Fronts.{IsTagSaid}

@@ -20,10 +20,10 @@ same-start b b' g g' t t' closes closes' is-b is-g is-t is-closes =
 
 pub returns-clause-ok : goal.returns-clause-ok
 returns-clause-ok c =
-    let held = c.in_ok-group in
     on_ok_weaker {Q = builder_of c.take_token.new.self ≡ token_done (builder_of c.args.self.now) (start_said c.args.self.now.path.store.page.now c.args.attributes.now c.args.tag)} c.take_token.result
     (λ e.
-    let tag = held.ensures.tag in
-    e ∙ same-start _ _ _ (group (name_of (part_in c.args.self.now.path.store.page.now c.args.tag.name))) _ _ c.args.tag.closes c.args.tag.closes c.hold_start_tag.ensures.ok
-    (held.ensures.group ∙ ap (λ (t : Tag). group t.name) tag) tag refl)
+    let tag = c.set_tag.ensures.tag ∙ c.in_ok-number.ensures.tag in
+    e ∙ same-start _ _ _ (group (name_of (part_in c.args.self.now.path.store.page.now c.args.tag.name))) _ _ c.args.tag.closes c.args.tag.closes
+    (c.set_tag.ensures.ok ∙ c.add_start_tag.ensures.ok)
+    (c.held_group-group.ensures ∙ ap (λ (t : Tag). group t.name) tag) tag refl)
     c.take_token.ensures.ok

@@ -1,6 +1,5 @@
 use Rattle.std.proofs.Common.{◌∙◌}
 use Rattle.tl_tree.proofs.NamesMet.{name-added, name-kept, names-same}
-use Rattle.tl_tree.specs.declared.met_names.MetNames.{MetNames}
 use Rattle.tl_tree.proofs.met_names.MetNames.add.Goals as goal
 
 pub returns-in_err-insert-clause-kept : goal.returns-in_err-insert-clause-kept

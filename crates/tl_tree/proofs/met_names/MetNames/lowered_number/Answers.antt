@@ -1,4 +1,4 @@
-use Rattle.std.proofs.Common.{Bool, Some, ap, false, nat_eq, not, refl, sym, true, ◌∙◌, ◌≡◌}
+use Rattle.std.proofs.Common.{Some, ap, false, nat_eq, sym, true, ◌∙◌, ◌≡◌}
 use Rattle.std.proofs.lemmas.Bool.{not-true}
 use Rattle.tl_names.specs.declared.element_name.ElementName.{ElementName}
 use Rattle.tl_tree.proofs.NamesMet.{found-among, not-false, other-number, own-number}

@@ -1,4 +1,4 @@
-use Rattle.std.proofs.Common.{arith, min}
+use Rattle.std.proofs.Common.{arith}
 use Rattle.std.proofs.lemmas.Bool.{ltb-false, ltb-true}
 use Rattle.tl_tree.proofs.Placed.{here-later}
 use Rattle.tl_tree.proofs.path.FramePath.may_be_placed.Goals as goal

@@ -1,4 +1,4 @@
-use Rattle.std.proofs.Common.{ap, refl, sym, ◌∙◌}
+use Rattle.std.proofs.Common.{ap, refl, ◌∙◌}
 use Rattle.tl_tree.proofs.Entering.{role-kept}
 use Rattle.tl_tree.proofs.Stacked.{tag-read, tagged-at}
 use Rattle.tl_tree.specs.Inner.Entered.{role_at}

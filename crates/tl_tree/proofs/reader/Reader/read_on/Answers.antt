@@ -1,4 +1,4 @@
-use Rattle.std.proofs.Common.{ap, not, subst, sym, ◌∙◌, ◌≡◌}
+use Rattle.std.proofs.Common.{subst, sym, ◌∙◌}
 use Rattle.tl_tree.proofs.ReadOn.{large-later, place-of}
 use Rattle.tl_tree.proofs.Sourced.{further-sourced, out-behind}
 use Rattle.tl_tree.specs.Sources.{IsOutOfProportionAt}

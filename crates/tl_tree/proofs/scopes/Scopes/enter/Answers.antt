@@ -1,4 +1,4 @@
-use Rattle.std.proofs.Common.{List, ap, arith, refl, subst, sym, ◌+◌, ◌∙◌}
+use Rattle.std.proofs.Common.{List, ap, refl, subst, sym, ◌+◌, ◌∙◌}
 use Rattle.std.proofs.Math.ListN.{set}
 use Rattle.tl_tree.proofs.Skips.{AreSound, elements-push, read-number, sound-entered, sound-longer, sound-of, sound-place}
 use Rattle.tl_tree.specs.Inner.Entered.{entered}

@@ -1,5 +1,5 @@
 use Rattle.std.proofs.Common.{◌≡◌, ◌∙◌, ◌&&◌, Bool, IsTrue, ap, arith, bytes_eq, false, length, refl, rules, sym, true}
-use Rattle.std.proofs.lemmas.Bool.{and_parts, false_from_ne_true}
+use Rattle.std.proofs.lemmas.Bool.{false_from_ne_true}
 use Rattle.std.proofs.lemmas.Slice.Eq.{bytes_eq-Decides}
 use Rattle.tl_tree.specs.Asked.{has_no_space}
 use Rattle.tl_tree.specs.Inner.Store.{attribute_of, bytes_of, is_span}

@@ -1,4 +1,4 @@
-use Rattle.std.proofs.Common.{List, get_or, subst, sym, take, ◌+◌, ◌∷◌}
+use Rattle.std.proofs.Common.{subst, sym, take, ◌+◌, ◌∷◌}
 use Rattle.tl_tree.proofs.Tallies.{tallied-next, tallied-to_marked}
 use Rattle.tl_tree.specs.Inner.Tallied.{AreTallied}
 use Rattle.tl_tree.specs.declared.active_entry.Entry.{Entry}

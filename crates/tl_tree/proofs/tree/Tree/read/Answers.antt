@@ -1,24 +1,74 @@
-use Rattle.std.proofs.Common.{List, ap, length, subst, ℕ, ◌∙◌}
-use Rattle.tl_dom_spec.specs.Builder.{Builder}
-use Rattle.tl_dom_spec.specs.HtmlTree.{document_of}
-use Rattle.tl_tree.specs.Rows.{rows_of}
-use Rattle.tl_tree.proofs.tree.Tree.read.Goals as goal
+use Rattle.std.proofs.Common.{List, ap, false, length, refl, subst, true, ◌<◌, ◌^◌, ◌∙◌, ℕ}
+use Rattle.std.proofs.lemmas.Result.{IfOk-weaker}
+use Rattle.tl_dom_spec.specs.Builder.{Builder, end_of_file}
+use Rattle.tl_dom_spec.specs.Dispatcher.{token_done}
+use Rattle.tl_dom_spec.specs.HtmlTree.{document_of, page_read}
+use Rattle.tl_tree.proofs.OnErrors.{if-all}
 use Rattle.tl_tree.proofs.Sourced.{page-sourced}
-use Rattle.tl_tree.specs.Inner.Builders.{builder_of, flags_of}
+use Rattle.tl_tree.proofs.TreesRead.{page-trees, same-little, same-quirks}
+use Rattle.tl_tree.specs.Inner.Builders.{flags_of}
+use Rattle.tl_tree.specs.Inner.Reading.{left_of}
 use Rattle.tl_tree.specs.Inner.Sourced.{AreSources}
-use Rattle.tl_tree.specs.Sources.{bounds_in, page_begin}
+use Rattle.tl_tree.specs.Rows.{rows_of}
+use Rattle.tl_tree.specs.Sources.{IsOutOfProportionAt, bounds_in, page_begin}
+use Rattle.tl_tree.proofs.tree.Tree.read.Goals as goal
 
 pub returns-clause-tree : goal.returns-clause-tree
 returns-clause-tree c =
-    c.in_ok-tree.ensures.tree
-    ∙ ap (λ (b : Builder). rows_of (document_of b).trees) (c.in_ok-read.ensures.ok ∙ c.in_ok-reader.ensures.left)
+    let built = token_done (left_of c.in_ok-reader.reader) end_of_file in
+    IfOk-weaker c.into_tree.result _ _
+    (λ tree is. page-trees built tree is ∙ ap (λ (b : Builder). rows_of (document_of b).trees) c.in_ok-reader.ensures.left)
+    c.into_tree.ensures.tree
+
+pub returns-clause-quirks : goal.returns-clause-quirks
+returns-clause-quirks c =
+    let flags = flags_of c.args.flags in
+    let page = c.args.page.now in
+    let built = token_done (left_of c.in_ok-reader.reader) end_of_file in
+    IfOk-weaker c.into_tree.result _ _
+    (λ tree is. same-quirks built (page_read flags page) tree c.in_ok-reader.ensures.left is)
+    c.into_tree.ensures.quirks
 
 pub returns-clause-sources : goal.returns-clause-sources
 returns-clause-sources c =
     let flags = flags_of c.args.flags in
     let page = c.args.page.now in
-    let reader = c.read.new.self in
-    page-sourced flags page c.in_ok-tree.tree (builder_of reader.builder) _ c.in_ok-tree.ensures.tree c.in_ok-tree.ensures.sources
-    (ap length (c.in_ok-tree.ensures.page ∙ (reader.same ∙ (c.read.ensures.page ∙ c.in_ok-reader.ensures.page))))
-    (subst (λ (own : List ℕ). AreSources own (page_begin flags page) (builder_of reader.builder) (bounds_in reader.sources)) c.in_ok-reader.ensures.page
-    (c.in_ok-read.ensures.sources (page_begin flags page) c.in_ok-reader.ensures.sources))
+    let begin = page_begin flags page in
+    let built = token_done (left_of c.in_ok-reader.reader) end_of_file in
+    if-all c.into_tree.result _ _ _ _
+    (λ tree is whole of.
+    page-sourced flags page tree built (bounds_in tree.sources) (page-trees built tree is) refl
+    (whole ∙ ap length c.in_ok-reader.ensures.page)
+    (subst (λ (own : List ℕ). AreSources own begin built (bounds_in tree.sources)) c.in_ok-reader.ensures.page
+    (of begin c.in_ok-reader.ensures.sources)))
+    c.into_tree.ensures.tree c.into_tree.ensures.end c.into_tree.ensures.sources
+
+pub returns-clause-in_proportion : goal.returns-clause-in_proportion
+returns-clause-in_proportion c =
+    let flags = flags_of c.args.flags in
+    let page = c.args.page.now in
+    let built = token_done (left_of c.in_ok-reader.reader) end_of_file in
+    IfOk-weaker c.into_tree.result _ _
+    (λ _ is. same-little built (page_read flags page) true c.in_ok-reader.ensures.left is)
+    c.into_tree.ensures.little
+
+pub returns-clause-out_of_proportion : goal.returns-clause-out_of_proportion
+returns-clause-out_of_proportion c at is =
+    let flags = flags_of c.args.flags in
+    let page = c.args.page.now in
+    let built = token_done (left_of c.in_ok-reader.reader) end_of_file in
+    same-little built (page_read flags page) false c.in_ok-reader.ensures.left (c.into_tree.ensures.large at is)
+
+pub returns-clause-place : goal.returns-clause-place
+returns-clause-place c at is =
+    let flags = flags_of c.args.flags in
+    let page = c.args.page.now in
+    let begin = page_begin flags page in
+    subst (λ (own : List ℕ). IsOutOfProportionAt own begin at) c.in_ok-reader.ensures.page
+    (c.into_tree.ensures.place at is begin c.in_ok-reader.ensures.sources c.in_ok-reader.ensures.little)
+
+pub returns-clause-short : goal.returns-clause-short
+returns-clause-short c =
+    IfOk-weaker c.into_tree.result _ _
+    (λ _ short. subst (λ (own : List ℕ). length own < 2 ^ 32) c.in_ok-reader.ensures.page short)
+    c.into_tree.ensures.short

@@ -1,4 +1,4 @@
-use Rattle.std.proofs.Common.{List, arith, rules, sym, ℕ, ◌≤◌, length, ◌∙◌}
+use Rattle.std.proofs.Common.{arith, rules, sym, ◌≤◌, length, ◌∙◌}
 use Rattle.std.proofs.lemmas.List.Sums.{prefix_len-le-length}
 use Rattle.std.specs.Char.{is_ascii_whitespace}
 use Rattle.tl_tree.proofs.WordLists.{empty-is, filled-is, in-word, word-none, word-some}
