@@ -30,7 +30,7 @@ use Rattle.tl_tree_select.proofs.Siblings.{links_to_last}
 twin_total : IsTotalOrder twin_cmp
 twin_total =
     then_total (on_total (λ g. g.siblings) nat_cmp_total)
-    (then_total (on_total (λ g. g.space) nat_cmp_total) (on_total (λ g. g.name.items) nat_list_cmp_total))
+    (then_total (on_total (λ g. g.space) nat_cmp_total) (on_total (λ g. g.name.now) nat_list_cmp_total))
 
 is_eq_true : (o : Ordering) → is_eq o ≡ true → o ≡ Equal
 is_eq_true Less e = absurd (false≢true e)

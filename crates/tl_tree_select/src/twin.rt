@@ -16,11 +16,11 @@ use std::collections::BTreeMap;
 use tl_tree::Namespace;
 
 // What twins have in common: the group of siblings, the namespace and the name.
-#[derive(PartialEq, Eq, PartialOrd, Ord, Drop)]
-struct TwinGroup {
+#[derive(Clone, Copy, PartialEq, Eq, PartialOrd, Ord)]
+struct TwinGroup<'t> {
     siblings: usize,
     space: usize,
-    name: Vec<u8>,
+    name: &'t [u8],
 }
 
 // Namespaces in an order.
@@ -35,42 +35,30 @@ fn space_number(space: Namespace) -> usize
 }
 
 // The group of an element, if there is an element of this number.
-fn twin_group(
-    alloc: Global,
-    page: &Searched<'_, '_>,
-    siblings: &[u32],
-    number: usize,
-) -> Result<Option<TwinGroup>, AllocError>
-    ensures { IfOk result (λ group. option_map parts group
-        ≡ twin_group (seen page.now) siblings.now number) }
+fn twin_group<'t>(page: &Searched<'t, '_>, siblings: &[u32], number: usize) -> Option<TwinGroup<'t>>
+    ensures { option_map parts result ≡ twin_group (seen page.now) siblings.now number }
 {
-    let Some(siblings) = link(siblings, number) else {
-        return Ok(None);
-    };
-    let Some(space) = page.tree.namespace(number) else {
-        return Ok(None);
-    };
-    let Some(name) = page.tree.name(number) else {
-        return Ok(None);
-    };
-    let name = Vec::from_slice(alloc, name)?;
-    Ok(Some(TwinGroup {
+    let siblings = link(siblings, number)?;
+    let space = page.tree.namespace(number)?;
+    let name = page.tree.name(number)?;
+    Some(TwinGroup {
         siblings,
         space: space_number(space),
         name,
-    }))
+    })
 }
 
 // The number that stands at a group, where this one stands from now on.
-fn replace_latest(
-    latest: &mut BTreeMap<TwinGroup, u32>,
-    group: Option<TwinGroup>,
+fn replace_latest<'t>(
+    latest: &mut BTreeMap<TwinGroup<'t>, u32>,
+    group: Option<TwinGroup<'t>>,
     number: u32,
 ) -> Result<u32, AllocError>
     ensures was { IfOk result (λ was. was
-        ≡ unwrap_or (option_and_then (get twin_cmp latest.old) group) no_link) }
+        ≡ unwrap_or (option_and_then (get twin_cmp latest.old) group.entry) no_link) }
     ensures is { OnOk result ((q : TwinGroup) → get twin_cmp latest.new q ≡ option_map_or
-        (λ g. cond (is_at (twin_cmp g) q) (Some number) (get twin_cmp latest.old q)) group
+        (λ g. cond (is_at (twin_cmp g) q) (Some number) (get twin_cmp latest.old q))
+        group.entry
         (get twin_cmp latest.old q)) }
 {
     let Some(group) = group else {
@@ -92,7 +80,7 @@ pub fn twins(
     let mut links = Vec::with_capacity(alloc, page.tree.len())?;
     let mut latest = BTreeMap::new(alloc);
     for number in 0..page.tree.len() {
-        let group = twin_group(alloc, page, siblings, number)?;
+        let group = twin_group(page, siblings, number);
         let before = replace_latest(&mut latest, group, number as u32)?;
         links.push(before)?;
     }

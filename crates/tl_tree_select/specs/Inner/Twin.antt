@@ -15,10 +15,10 @@ space_of Svg = dom.svg_space
 
 -- the group of siblings, and the name with the number of its namespace
 abbrev pub parts : TwinGroup → ℕ × (ℕ × List ℕ)
-parts g = (g.siblings, (g.space, g.name.items))
+parts g = (g.siblings, (g.space, g.name.now))
 
 -- by siblings, then by namespace, and then by name
 abbrev pub twin_cmp : TwinGroup → TwinGroup → Ordering
 twin_cmp a b =
     ordering_then (nat_cmp a.siblings b.siblings)
-    (ordering_then (nat_cmp a.space b.space) (slice_cmp nat_cmp a.name.items b.name.items))
+    (ordering_then (nat_cmp a.space b.space) (slice_cmp nat_cmp a.name.now b.name.now))

@@ -17,7 +17,7 @@ loop-number-preserved c =
     let small : n < no_link = omega (arith, numbered) in
     subst (λ (links : List ℕ). Twinned page c.args.siblings.now (n + 1) links c.replace_latest.new.latest) (sym c.in_ok-push.ensures.items)
     (one_twinned page c.args.siblings.now n small c.loop-number.links.items c.loop-number.latest c.replace_latest.new.latest c.loop-number.invariant
-    c.in_ok-group.group c.in_ok-group.ensures c.in_ok-before.ensures.is c.in_ok-before.before c.in_ok-before.ensures.was)
+    c.twin_group-group.result c.twin_group-group.ensures c.in_ok-before.ensures.is c.in_ok-before.before c.in_ok-before.ensures.was)
 
 pub returns : goal.returns
 returns c =
