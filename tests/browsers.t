@@ -247,7 +247,7 @@ With a tag on each line where white space doesn't count.
         </tbody>
       </table>
     </body>
-  </html> (no-eol)
+  </html>
   $ printf '<p>a <b>b</b> c<p>d<pre> e\n f</pre><script>g\nh</script><textarea>\n i</textarea>' | tl print --pretty
   <html>
     <head></head>
@@ -260,7 +260,7 @@ With a tag on each line where white space doesn't count.
   h</script>
       <textarea> i</textarea>
     </body>
-  </html> (no-eol)
+  </html>
   $ tl print --pretty icon.html
   <!DOCTYPE html>
   <html>

@@ -122,7 +122,7 @@ Each command, and each option of `select`.
       </ul>
       <pre>d</pre>
     </body>
-  </html> (no-eol)
+  </html>
   $ tl select --json -0 b <page
   [{"attributes":{},"name":"b","node":5,"start":9,"end":12,"text":"y"}]\x00 (esc) (no-eol)
   $ printf '<p =1>' | tl select -a '' p

@@ -12,15 +12,16 @@ use Rattle.tl_dom_spec.specs.Marks.{Marked}
 use Rattle.tl_dom_spec.specs.Tags.{Namespace, Tag, html_space, is_any, is_html, math_space, svg_space}
 use Rattle.tl_html_print.proofs.Forests.{element_row, trees_printed}
 use Rattle.tl_html_print.proofs.Printing.{AreUp, closed_above, if-false, if-true, own_ancestors, parent_is, print_none, row_here, rows_behind, tag_is}
-use Rattle.tl_html_print.specs.Inner.Lines.{begin, begins_next, behind, closed_lines, closed_spot, element_stand_at, inside, is_late_at, is_opened_at, is_white_at, is_white_node, laid_from, laid_rows, laid_up_to, line_if, next_of, outside, parent_ends, stand_at, stand_of, start_lines, step_lines, step_spot, whole_lines, whole_spot}
-use Rattle.tl_html_print.specs.Inner.Printed.{closed, ends_at, parent_tag, printed, printed_from, tag_at, tag_of}
+use Rattle.tl_html_print.specs.Inner.Lines.{begin, begins_next, behind, closed_lines, closed_spot, element_stand_at, inside, is_late_at, is_opened_at, is_white_at, is_white_node, laid_from, laid_rows, laid_up_to, last_line, line_if, next_of, outside, parent_ends, stand_at, stand_of, start_lines, step_lines, step_spot, whole_lines, whole_spot}
+use Rattle.tl_tree.specs.Below.{ends_at}
+use Rattle.tl_html_print.specs.Inner.Printed.{closed, parent_tag, printed, printed_from, tag_at, tag_of}
 use Rattle.tl_html_print.specs.Pretty.{after, after_lines, begins, begins_line, element_stand, ends_line, followed_by, has_lines, frame_names, is_block, is_broken, is_empty, is_frame_in, is_on_lines, is_opened, is_white, laid, last, late_names, line, pretty, unseen_names, with_line}
 use Rattle.tl_html_print.specs.Serialized.{end_tag, escaped, is_literal_in, parent_below, serialized, serialized_comment, serialized_doctype, serialized_text, start_tag, unless_void}
 use Rattle.tl_html_print.specs.declared.pretty.spot.Before.{Before}
 use Rattle.tl_html_print.specs.declared.pretty.spot.Before.TheVariants.{Begin, Edge, Fresh, Joined, Run, Tight}
 use Rattle.tl_html_print.specs.declared.pretty.spot.Spot.{Spot}
 use Rattle.tl_html_print.specs.declared.pretty.stand.Stand.{Stand}
-use Rattle.tl_html_print.specs.declared.pretty.stand.Stand.TheVariants.{Alone, Inside, Unseen, Words}
+use Rattle.tl_html_print.specs.declared.pretty.stand.Stand.TheVariants.{Alone, Inside, Late, Unseen, Words}
 use Rattle.tl_html_spec.specs.Balanced.{is_one_of}
 use Rattle.tl_tree.proofs.RowLaws.{contents-length, parent_before, row_numbers, rows-length}
 use Rattle.tl_tree.specs.Asked.{ancestors_at, ancestors_up_from, end_at, first_child_at, node_at, parent_at}
@@ -28,14 +29,6 @@ use Rattle.tl_tree.specs.Rows.{Node, Row, a_comment, a_doctype, a_text, an_eleme
 use Rattle.tl_tree_extract.specs.Boxes.{box_in}
 use Rattle.tl_tree_extract.specs.declared.text.display.Display.{Display}
 use Rattle.tl_tree_extract.specs.declared.text.display.Display.TheVariants.{Block, Hidden, Inline, LineBreak, Paragraph, Preformatted, TableBox, TableCell, TableRow}
-
-when-true : (b : Bool) (x : List ℕ) → b ≡ true → (elim b as (λ _. List ℕ) [ true ↦ x | false ↦ [] ]) ≡ x
-when-true true x e = refl
-when-true false x e = cc
-
-when-false : (b : Bool) (x : List ℕ) → b ≡ false → (elim b as (λ _. List ℕ) [ true ↦ x | false ↦ [] ]) ≡ []
-when-false true x e = cc
-when-false false x e = refl
 
 and-false : (b : Bool) → b && false ≡ false
 and-false true = refl
@@ -115,10 +108,28 @@ or-true : (a : Bool) → a || true ≡ true
 or-true true = refl
 or-true false = refl
 
--- what is broken over lines stands alone
-pub broken-alone : (h : Option Tag) (tag : Tag) → is_broken tag ≡ true → element_stand h tag ≡ Alone
-broken-alone h tag e =
-    if-true (is_frame_in h || is_block tag) Alone _ (ap (λ b. is_frame_in h || b) (broken-block tag e) ∙ or-true (is_frame_in h))
+then-more : (b : Bool) (x y : List ℕ) → b ≡ true → (elim b as (λ _. List ℕ) [ true ↦ x | false ↦ y ]) ≡ x
+then-more true x y e = refl
+then-more false x y e = cc
+
+else-last : (b : Bool) (x y : List ℕ) → b ≡ false → (elim b as (λ _. List ℕ) [ true ↦ x | false ↦ y ]) ≡ y
+else-last true x y e = cc
+else-last false x y e = refl
+
+late-begins : (b : Before) (late : Bool) → begins_line b (if late then Late else Alone) ≡ begins_line b Alone
+late-begins b false = refl
+late-begins Begin true = refl
+late-begins Edge true = refl
+late-begins Fresh true = refl
+late-begins Run true = refl
+late-begins Joined true = refl
+late-begins Tight true = refl
+
+-- what is broken over lines begins one as what stands alone
+pub broken-begins : (b : Before) (h : Option Tag) (tag : Tag) → is_broken tag ≡ true → begins_line b (element_stand h tag) ≡ begins_line b Alone
+broken-begins b h tag e =
+    ap (begins_line b) (if-true (is_frame_in h || is_block tag) (if is_any late_names tag then Late else Alone) _ (ap (λ x. is_frame_in h || x) (broken-block tag e) ∙ or-true (is_frame_in h)))
+    ∙ late-begins b (is_any late_names tag)
 
 not-false : (b : Bool) → not b ≡ true → b ≡ false
 not-false true e = sym e
@@ -168,7 +179,8 @@ node_stand h (a_text own) = Words
 
 element-stands : (R : List Row) (n : ℕ) (tag : Tag) (h : Option Tag) → tag_at R n ≡ Some tag → parent_tag R (parent_at R n) ≡ h → element_stand_at R n ≡ element_stand h tag
 element-stands R n tag h e f =
-    ap₂ (λ (t : Option Tag) (p : Option Tag). if is_frame_in p || unwrap_or (option_map is_block t) false then Alone
+    ap₂ (λ (t : Option Tag) (p : Option Tag). if is_frame_in p || unwrap_or (option_map is_block t) false
+    then (if unwrap_or (option_map (is_any late_names) t) false then Late else Alone)
     else if unwrap_or (option_map (is_any unseen_names) t) false then Unseen else Inside) e f
 
 module _ (R : List Row) (n : ℕ) (row : Row) (at : slice_get R n ≡ Some row) where
@@ -275,17 +287,17 @@ module _ (s : Bool) (R : List Row) where
 
   enough : (f g n : ℕ) (spot : Spot) → length R ≤ n + f → length R ≤ n + g → laid_up_to s R f n spot ≡ laid_up_to s R g n spot
   enough zero zero n spot h k = refl
-  enough zero (suc g) n spot h k = sym (when-false (nat_lt n (length R)) _ (le-ltb n (length R) (omega arith)))
-  enough (suc f) zero n spot h k = when-false (nat_lt n (length R)) _ (le-ltb n (length R) (omega arith))
+  enough zero (suc g) n spot h k = sym (else-last (nat_lt n (length R)) _ (last_line spot) (le-ltb n (length R) (omega arith)))
+  enough (suc f) zero n spot h k = else-last (nat_lt n (length R)) _ (last_line spot) (le-ltb n (length R) (omega arith))
   enough (suc f) (suc g) n spot h k = elim (cases_Bool (nat_lt n (length R))) [
     | inl less ↦
         let o = is_opened_at R n in
         let next = next_of R n o in
         let l = next-further n o in
-        when-true (nat_lt n (length R)) _ less
+        then-more (nat_lt n (length R)) _ (last_line spot) less
         ∙ ap (λ x. step_lines s R n o next spot ++ x) (enough f g next (step_spot R n o next spot) (omega (arith, l, h)) (omega (arith, l, k)))
-        ∙ sym (when-true (nat_lt n (length R)) _ less)
-    | inr more ↦ when-false (nat_lt n (length R)) _ more ∙ sym (when-false (nat_lt n (length R)) _ more)
+        ∙ sym (then-more (nat_lt n (length R)) _ (last_line spot) less)
+    | inr more ↦ else-last (nat_lt n (length R)) _ (last_line spot) more ∙ sym (else-last (nat_lt n (length R)) _ (last_line spot) more)
   ]
 
   pub laid_more : (n : ℕ) (spot : Spot) (o : Bool) (next : ℕ) → n < length R → o ≡ is_opened_at R n → next ≡ next_of R n o →
@@ -295,12 +307,12 @@ module _ (s : Bool) (R : List Row) where
       let own = is_opened_at R n in
       let most : length R - n ≡ suc (length R - n - 1) = omega (arith, h) in
       ap (λ f. laid_up_to s R f n spot) most
-      ∙ when-true (nat_lt n (length R)) _ (lt-ltb n (length R) h)
+      ∙ then-more (nat_lt n (length R)) _ (last_line spot) (lt-ltb n (length R) h)
       ∙ ap (λ x. step_lines s R n own (next_of R n own) spot ++ x) (enough (length R - n - 1) (length R - next_of R n own) (next_of R n own) (step_spot R n own (next_of R n own) spot) (omega (arith, l, h)) (omega (arith, l)))
       ∙ ap (λ v. step_lines s R n v (next_of R n v) spot ++ laid_from s R (next_of R n v) (step_spot R n v (next_of R n v) spot)) (sym eo)
       ∙ ap (λ k. step_lines s R n o k spot ++ laid_from s R k (step_spot R n o k spot)) (sym en)
 
-  pub laid_none : (n : ℕ) (spot : Spot) → length R ≤ n → laid_from s R n spot ≡ []
+  pub laid_none : (n : ℕ) (spot : Spot) → length R ≤ n → laid_from s R n spot ≡ last_line spot
   laid_none n spot h =
       let none : length R - n ≡ 0 = omega (arith, h) in
       ap (λ f. laid_up_to s R f n spot) none
@@ -627,7 +639,7 @@ module _ (s : Bool) (R : List Row) (up : AreUp R) where
       let tail = rest end (record { depth = spot.depth; before = last h next.before more }) above in
       let start = line_if (begins_line spot.before (element_stand h tag)) spot.depth in
       let started : start_lines R n spot ≡ start ++ start_tag tag =
-      ap₂ (λ v x. line_if (begins_line spot.before v) spot.depth ++ x) (sym (broken-alone h tag parts.0)) (ap (λ o. unwrap_or (option_map start_tag o) []) t) in
+      ap₂ (λ v x. line_if v spot.depth ++ x) (sym (broken-begins spot.before h tag parts.0)) (ap (λ o. unwrap_or (option_map start_tag o) []) t) in
       let contents_done : laid_from s R (n + 1) (inside spot) ≡ B ++ (E ++ (end_tag tag ++ (serialized s h M ++ tail))) =
       sym (quiet (Some n) (Some tag) to (n + 1) (inside spot) (t, ending) (omega (arith, some)))
       ∙ inner (n + 1) (Some n) (Some tag) (back ++ post) (inside spot) below_at (omega (arith, m, place)) (t, ending)
@@ -684,9 +696,13 @@ laid_found s trees =
     let all = row_numbers trees in
     let count : 0 + row_count trees ≡ length R = omega (arith, all) in
     let up : AreUp R = λ n row p at is. parent_before trees n row p at is in
+    let ends = ends_line (last None Begin trees) in
+    let front = serialized s None (laid 0 None Begin trees) in
     trees_laid s R up trees 0 None None [] begin (sym (append-nil R)) (omega (arith, count)) count
-    ∙ ap (λ x. pretty s trees ++ x) (laid_none s R (0 + row_count trees) (record { depth = 0; before = last None Begin trees }) (omega (arith, count)))
-    ∙ append-nil (pretty s trees)
+    ∙ ap (λ x. front ++ x)
+    (laid_none s R (0 + row_count trees) (record { depth = 0; before = last None Begin trees }) (omega (arith, count))
+    ∙ sym (line-written s None ends 0 no_trees ∙ append-nil (line_if ends 0)))
+    ∙ sym (followed-written s None (laid 0 None Begin trees) (with_line ends 0 no_trees))
 
 -- How many elements around are broken over lines
 

@@ -77,4 +77,8 @@ without-laid (element tag below more) d h b =
     (without-laid more d h own)
 
 pub same_nodes : (trees : HtmlForest) → without_white (laid_out trees) ≡ without_white trees
-same_nodes trees = without-laid trees 0 None Begin
+same_nodes trees =
+    let ends = ends_line (last None Begin trees) in
+    without-followed (laid 0 None Begin trees) (with_line ends 0 no_trees)
+    ∙ ap₂ followed_by (without-laid trees 0 None Begin) (without-line ends 0 no_trees)
+    ∙ followed-none (without_white trees)

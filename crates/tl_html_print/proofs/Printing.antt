@@ -5,7 +5,8 @@ use Rattle.std.proofs.lemmas.Option.{same_Some}
 use Rattle.std.specs.Option.{option_and_then, option_map, unwrap_or}
 use Rattle.std.specs.Prelude.{max, slice_get}
 use Rattle.tl_dom_spec.specs.Lawful.{is_void}
-use Rattle.tl_html_print.specs.Inner.Printed.{behind, closed, ends_at, is_void_at, opened, opened_at, parent_tag, printed_from, printed_up_to, tag_of, tag_at, upwards}
+use Rattle.tl_tree.specs.Below.{ends_at}
+use Rattle.tl_html_print.specs.Inner.Printed.{behind, closed, is_void_at, opened, opened_at, parent_tag, printed_from, printed_up_to, tag_of, tag_at, upwards}
 use Rattle.tl_html_print.specs.Serialized.{end_tag}
 use Rattle.tl_tree.specs.Asked.{ancestors_from, ancestors_up_from, end_at, node_at, parent_at}
 use Rattle.tl_tree.specs.Rows.{Row}

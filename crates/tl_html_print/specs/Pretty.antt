@@ -16,7 +16,7 @@ use Rattle.tl_html_print.specs.Serialized.{serialized}
 use Rattle.tl_html_print.specs.declared.pretty.spot.Before.{Before}
 use Rattle.tl_html_print.specs.declared.pretty.spot.Before.TheVariants.{Begin, Edge, Fresh, Joined, Run, Tight}
 use Rattle.tl_html_print.specs.declared.pretty.stand.Stand.{Stand}
-use Rattle.tl_html_print.specs.declared.pretty.stand.Stand.TheVariants.{Alone, Inside, Unseen, Words}
+use Rattle.tl_html_print.specs.declared.pretty.stand.Stand.TheVariants.{Alone, Inside, Late, Unseen, Words}
 use Rattle.tl_html_spec.specs.Balanced.{is_one_of}
 use Rattle.tl_tree_extract.specs.Boxes.{box_in}
 use Rattle.tl_tree_extract.specs.declared.text.display.Display.{Display}
@@ -69,7 +69,7 @@ is_broken tag =
 
 abbrev pub element_stand : Option Tag → Tag → Stand
 element_stand holder tag =
-    if is_frame_in holder || is_block tag then Alone
+    if is_frame_in holder || is_block tag then (if is_any late_names tag then Late else Alone)
     else if is_any unseen_names tag then Unseen
     else Inside
 
@@ -78,12 +78,16 @@ element_stand holder tag =
 -- whether a line begins before what stands so
 abbrev pub begins_line : Before → Stand → Bool
 begins_line Edge Alone = true
+begins_line Edge Late = true
 begins_line Edge Unseen = true
 begins_line Fresh Alone = true
+begins_line Fresh Late = true
 begins_line Fresh Unseen = true
 begins_line Fresh Inside = true
 begins_line Run Alone = true
+begins_line Run Late = true
 begins_line Joined Alone = true
+begins_line Joined Late = true
 begins_line _ _ = false
 
 -- whether one begins before the end tag
@@ -92,7 +96,7 @@ ends_line Fresh = true
 ends_line Run = true
 ends_line _ = false
 
--- what then stands before
+-- what then stands before: nothing may stand behind a `body` or `html` in which nothing is
 abbrev pub after : Before → Stand → Before
 after _ Alone = Fresh
 after Begin Unseen = Fresh
@@ -104,6 +108,7 @@ after Fresh Inside = Run
 after Run Inside = Run
 after _ Inside = Joined
 after _ Words = Tight
+after _ Late = Tight
 
 -- behind an element: where its end tag doesn't begin a line, nothing may stand behind those that
 -- are late
@@ -196,8 +201,10 @@ laid depth holder before (element tag below more) =
     with_line (begins_line before (element_stand holder tag)) depth
     (element tag (laid_in depth tag below inner) (laid depth holder own more))
 
+-- behind the last line stands a line feed, where the end tag of what holds them would begin a line
 abbrev pub laid_out : HtmlForest → HtmlForest
-laid_out trees = laid 0 None Begin trees
+laid_out trees =
+    followed_by (laid 0 None Begin trees) (with_line (ends_line (last None Begin trees)) 0 no_trees)
 
 abbrev pub pretty : Bool → HtmlForest → List ℕ
 pretty is_scripting trees = serialized is_scripting None (laid_out trees)

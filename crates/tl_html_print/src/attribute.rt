@@ -2,22 +2,22 @@
 ghost use Rattle.std.specs.Prelude.{OnOk, flat_map, ◌++◌, ◌≡◌};
 ghost use Rattle.tl_html_print.specs.Serialized.{serialized_attribute, serialized_name};
 ghost use Rattle.tl_tree.specs.Asked.{attribute_said, attributes_at};
-ghost use Rattle.tl_tree.specs.Inner.Store.{attribute_space_of};
 ghost use Rattle.tl_tree.specs.TreeView.{rows_in};
 
 use crate::escape::write_escaped;
 use std::alloc::AllocError;
 use tl_tree::{Attribute, AttributeSpace, Tree};
 
-// What stands before the key of an attribute.
-fn prefix(space: AttributeSpace, key: &[u8]) -> &'static [u8]
-    ensures { result.now ++ key.now ≡ serialized_name (attribute_space_of space) key.now }
+/// What stands before the key of an attribute where it is serialized.
+pub fn attribute_prefix(attribute: Attribute<'_>) -> &'static [u8]
+    ensures { let own = attribute_said attribute.entry in
+        result.now ++ own.key ≡ serialized_name own.space own.key }
 {
-    match space {
+    match attribute.space {
         AttributeSpace::Plain => b"",
         AttributeSpace::Xlink => b"xlink:",
         AttributeSpace::Xml => b"xml:",
-        AttributeSpace::Xmlns if key == b"xmlns".as_slice() => b"",
+        AttributeSpace::Xmlns if attribute.key == b"xmlns".as_slice() => b"",
         AttributeSpace::Xmlns => b"xmlns:",
     }
 }
@@ -27,7 +27,7 @@ fn write_attribute(attribute: Attribute<'_>, out: &mut Vec<u8>) -> Result<(), Al
         ≡ out.old.items ++ serialized_attribute (attribute_said attribute.entry)) }
 {
     out.push(b' ')?;
-    out.extend_from_slice(prefix(attribute.space, attribute.key))?;
+    out.extend_from_slice(attribute_prefix(attribute))?;
     out.extend_from_slice(attribute.key)?;
     out.extend_from_slice(b"=\"")?;
     write_escaped(true, attribute.value, out)?;

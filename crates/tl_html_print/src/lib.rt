@@ -13,6 +13,7 @@ mod pretty;
 mod print;
 mod rows;
 
+pub use attribute::attribute_prefix;
 pub use escape::write_escaped;
 pub use pretty::write_pretty;
 pub use print::{write_document, write_inner, write_outer};

@@ -17,7 +17,8 @@ use tl_tree::Tree;
 /// Writes all of a tree, with a tag on each line where white space doesn't count.
 ///
 /// A line is indented by two spaces for each element around it that is broken over lines, but for
-/// 40 of them at most. The last line has no line feed. Each text but white space stays as it is.
+/// 40 of them at most. The last line ends with a line feed, but behind a text, or a body in which
+/// nothing is, since that would be read as a part of it. Each text but white space stays as it is.
 pub fn write_pretty(
     tree: &Tree<'_>,
     is_scripting: bool,

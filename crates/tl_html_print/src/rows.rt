@@ -1,6 +1,7 @@
 //! Nodes in the order of the page.
 ghost use Rattle.std.specs.Prelude.{OnOk, ◌+◌, ◌++◌, ◌<◌, ◌≤◌, ◌^◌, ◌≡◌};
-ghost use Rattle.tl_html_print.specs.Inner.Printed.{behind, closed, ends_at, printed, upwards};
+ghost use Rattle.tl_tree.specs.Below.{ends_at};
+ghost use Rattle.tl_html_print.specs.Inner.Printed.{behind, closed, printed, upwards};
 ghost use Rattle.tl_tree.specs.Asked.{ancestors_at};
 ghost use Rattle.tl_tree.specs.TreeView.{rows_in};
 

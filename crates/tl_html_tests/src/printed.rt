@@ -34,11 +34,11 @@ static NODES: [(&[u8], usize, &[u8], &[u8]); 8] = [
 // A page, and its print with a tag on each line.
 #[rattlefmt::skip]
 static LINES: [(&[u8], &[u8]); 5] = [
-    (b"<p>a", b"<html>\n  <head></head>\n  <body>\n    <p>a</p>\n  </body>\n</html>"),
-    (b"<ul> <li>a\n<li><b>c</b></ul>", b"<html>\n  <head></head>\n  <body>\n    <ul>\n      <li>a\n</li>\n      <li><b>c</b></li>\n    </ul>\n  </body>\n</html>"),
-    (b"<script>a</script><pre>b\n c", b"<html>\n  <head>\n    <script>a</script>\n  </head>\n  <body>\n    <pre>b\n c</pre>\n  </body>\n</html>"),
+    (b"<p>a", b"<html>\n  <head></head>\n  <body>\n    <p>a</p>\n  </body>\n</html>\n"),
+    (b"<ul> <li>a\n<li><b>c</b></ul>", b"<html>\n  <head></head>\n  <body>\n    <ul>\n      <li>a\n</li>\n      <li><b>c</b></li>\n    </ul>\n  </body>\n</html>\n"),
+    (b"<script>a</script><pre>b\n c", b"<html>\n  <head>\n    <script>a</script>\n  </head>\n  <body>\n    <pre>b\n c</pre>\n  </body>\n</html>\n"),
     (b"<!--a--><hr>b", b"<!--a-->\n<html>\n  <head></head>\n  <body>\n    <hr>b</body></html>"),
-    (b"<template><p>a", b"<html>\n  <head>\n    <template><p>a</p></template>\n  </head>\n  <body></body>\n</html>"),
+    (b"<template><p>a", b"<html>\n  <head>\n    <template><p>a</p></template>\n  </head>\n  <body></body></html>"),
 ];
 
 fn has_lines(alloc: Global, page: &[u8], print: &[u8]) -> bool {

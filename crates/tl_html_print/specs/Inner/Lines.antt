@@ -2,13 +2,14 @@
 use Rattle.std.specs.Option.{is_some, option_map, unwrap_or}
 use Rattle.std.specs.Prelude.{Bool, List, [], false, if◌then◌else◌, length, max, nat_lt, suc, true, zero, ℕ, ◌+◌, ◌-◌, ◌&&◌, ◌++◌, ◌||◌, ◌∷◌}
 use Rattle.tl_dom_spec.specs.Tags.{Tag, is_any}
-use Rattle.tl_html_print.specs.Inner.Printed.{ended_at, ends_at, parent_tag, printed, tag_at}
+use Rattle.tl_tree.specs.Below.{ends_at}
+use Rattle.tl_html_print.specs.Inner.Printed.{ended_at, parent_tag, printed, tag_at}
 use Rattle.tl_html_print.specs.Pretty.{after, after_lines, begins_line, ends_line, is_block, is_broken, is_frame, is_frame_in, is_white, late_names, line, unseen_names}
 use Rattle.tl_html_print.specs.Serialized.{start_tag}
 use Rattle.tl_html_print.specs.declared.pretty.spot.Before.TheVariants.{Begin, Edge}
 use Rattle.tl_html_print.specs.declared.pretty.spot.Spot.{Spot}
 use Rattle.tl_html_print.specs.declared.pretty.stand.Stand.{Stand}
-use Rattle.tl_html_print.specs.declared.pretty.stand.Stand.TheVariants.{Alone, Inside, Unseen, Words}
+use Rattle.tl_html_print.specs.declared.pretty.stand.Stand.TheVariants.{Alone, Inside, Late, Unseen, Words}
 use Rattle.tl_tree.specs.Asked.{ancestors_at, end_at, first_child_at, node_at, parent_at}
 use Rattle.tl_tree.specs.Rows.{Node, Row, a_comment, a_doctype, a_text, an_element}
 
@@ -38,7 +39,8 @@ is_late_at rows number = has_tag (is_any late_names) rows number
 
 abbrev pub element_stand_at : List Row → ℕ → Stand
 element_stand_at rows number =
-    if is_frame_around rows number || is_block_at rows number then Alone
+    if is_frame_around rows number || is_block_at rows number
+    then (if is_late_at rows number then Late else Alone)
     else if is_unseen_at rows number then Unseen
     else Inside
 
@@ -155,9 +157,13 @@ abbrev pub step_spot : List Row → ℕ → Bool → ℕ → Spot → Spot
 step_spot rows number is_opened next spot =
     if is_opened then inside spot else closing_spot rows number next spot
 
+-- behind the last row
+abbrev pub last_line : Spot → List ℕ
+last_line spot = line_if (ends_line spot.before) (spot.depth - 1)
+
 -- so many rows at most, from one on
 abbrev pub laid_up_to : Bool → List Row → ℕ → ℕ → Spot → List ℕ
-laid_up_to is_scripting rows zero number spot = []
+laid_up_to is_scripting rows zero number spot = last_line spot
 laid_up_to is_scripting rows (suc most) number spot =
     elim (nat_lt number (length rows)) as (λ _. List ℕ) [
       | true ↦ (
@@ -166,7 +172,7 @@ laid_up_to is_scripting rows (suc most) number spot =
           step_lines is_scripting rows number is_opened next spot
           ++ laid_up_to is_scripting rows most next
           (step_spot rows number is_opened next spot))
-      | false ↦ []
+      | false ↦ last_line spot
     ]
 
 abbrev pub laid_from : Bool → List Row → ℕ → Spot → List ℕ

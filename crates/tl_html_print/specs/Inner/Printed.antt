@@ -6,6 +6,7 @@ use Rattle.tl_dom_spec.specs.Lawful.{is_void}
 use Rattle.tl_dom_spec.specs.Tags.{Tag, is_html}
 use Rattle.tl_html_print.specs.Serialized.{end_tag, serialized_comment, serialized_doctype, serialized_text, start_tag}
 use Rattle.tl_tree.specs.Asked.{ancestors_at, end_at, node_at, parent_at}
+use Rattle.tl_tree.specs.Below.{ends_at}
 use Rattle.tl_tree.specs.Rows.{Node, Row, a_comment, a_doctype, a_text, an_element, contents}
 
 -- the tag of an element
@@ -50,9 +51,6 @@ opened_at is_scripting rows number =
 -- what a row writes behind what is below it
 abbrev pub ended_at : List Row → ℕ → List ℕ
 ended_at rows number = unwrap_or (option_map end_tag (tag_at rows number)) []
-
-abbrev pub ends_at : List Row → ℕ → ℕ → Bool
-ends_at rows number next = unwrap_or (option_map (λ end. end == next) (end_at rows number)) false
 
 -- rows from the inside outwards, as long as they end before the next row, and are none before the
 -- first that is printed

@@ -51,9 +51,9 @@ impl Before {
         ensures { result ≡ begins_line self stand }
     {
         match (self, stand) {
-            (Before::Fresh, Stand::Alone | Stand::Unseen | Stand::Inside) => true,
-            (Before::Edge, Stand::Alone | Stand::Unseen) => true,
-            (Before::Run | Before::Joined, Stand::Alone) => true,
+            (Before::Fresh, Stand::Alone | Stand::Late | Stand::Unseen | Stand::Inside) => true,
+            (Before::Edge, Stand::Alone | Stand::Late | Stand::Unseen) => true,
+            (Before::Run | Before::Joined, Stand::Alone | Stand::Late) => true,
             _ => false,
         }
     }
@@ -78,7 +78,7 @@ impl Before {
             (Stand::Inside, Before::Fresh) => Before::Run,
             (Stand::Unseen | Stand::Inside, Before::Run) => Before::Run,
             (Stand::Unseen | Stand::Inside, _) => Before::Joined,
-            (Stand::Words, _) => Before::Tight,
+            (Stand::Words | Stand::Late, _) => Before::Tight,
         }
     }
 

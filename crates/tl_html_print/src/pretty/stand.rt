@@ -1,7 +1,8 @@
 //! How nodes stand among lines.
-ghost use Rattle.std.specs.Prelude.{◌≡◌};
+ghost use Rattle.std.specs.Prelude.{if◌then◌else◌, ◌≡◌};
 ghost use Rattle.tl_html_print.specs.Inner.Lines.{is_block_at, is_broken_at, is_frame_at, is_frame_around, element_stand_at, is_late_at, is_unseen_at, stand_at};
 ghost use Rattle.tl_html_print.specs.Pretty.{has_lines, is_on_lines};
+ghost use Rattle.tl_html_print.specs.declared.pretty.stand.Stand.TheVariants.{Alone, Late};
 ghost use Rattle.tl_tree.specs.TreeView.{rows_in};
 
 use crate::element::{html_name, is_void};
@@ -14,6 +15,8 @@ use tl_tree_extract::text::{Display, box_of};
 pub(crate) enum Stand {
     /// On lines of its own.
     Alone,
+    /// The same of what nothing may stand behind, unless it is broken over lines itself.
+    Late,
     /// Nothing of it is shown: white space beside it counts where it would without it.
     Unseen,
     /// In a line, where white space counts.
@@ -114,12 +117,23 @@ pub(crate) fn is_late(tree: &Tree<'_>, number: usize) -> bool
     }
 }
 
+// How an element stands that stands on lines of its own.
+fn block_stand(tree: &Tree<'_>, number: usize) -> Stand
+    ensures { result ≡ (if is_late_at (rows_in tree.now) number then Late else Alone) }
+{
+    if is_late(tree, number) {
+        Stand::Late
+    } else {
+        Stand::Alone
+    }
+}
+
 // How an element stands among lines.
 fn element_stand(tree: &Tree<'_>, number: usize) -> Stand
     ensures { result ≡ element_stand_at (rows_in tree.now) number }
 {
     if is_in_frame(tree, number) || is_block(tree, number) {
-        Stand::Alone
+        block_stand(tree, number)
     } else if is_unseen(tree, number) {
         Stand::Unseen
     } else {

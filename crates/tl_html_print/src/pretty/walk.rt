@@ -199,5 +199,5 @@ pub(crate) fn write_lines(
         spot = put_node(tree, number, is_opened, next, is_scripting, spot, out)?;
         number = next;
     }
-    Ok(())
+    spot.put_last_line(out)
 }
