@@ -7,7 +7,7 @@ use Rattle.tl_tree_safe.specs.Lists.{ListedWords, is_key_byte, is_link_byte, is_
 use Rattle.std.specs.Char.{is_ascii_lowercase}
 use Rattle.tl_tree_safe.specs.declared.refusal.PolicyError.{PolicyError}
 use Rattle.tl_tree_safe.specs.declared.refusal.Reason.{Reason}
-use Rattle.tl_tree_safe.specs.declared.refusal.Reason.TheVariants.{ActiveKey, ActiveScheme, LinkKey, MalformedKey, MalformedLink, MalformedPrefix, MalformedTag, NoCell, NoRow, NoScheme, NoTable, NoTableBody, OpaqueTag, ScriptKey, StructuralTag, UnlistedMark}
+use Rattle.tl_tree_safe.specs.declared.refusal.Reason.TheVariants.{ActiveKey, ActiveScheme, LinkKey, MalformedKey, MalformedLink, MalformedPrefix, MalformedTag, NoCaption, NoCell, NoRow, NoScheme, NoTable, NoTableBody, OpaqueTag, ScriptKey, StructuralTag, UnlistedMark}
 
 -- Names
 
@@ -104,12 +104,18 @@ part_names =
     codes "caption" ∷ codes "colgroup" ∷ codes "col" ∷ codes "tbody" ∷ codes "thead" ∷
     codes "tfoot" ∷ codes "tr" ∷ codes "td" ∷ codes "th" ∷ []
 
--- what these names lack to be those of a table in which a text can stand, if anything
+-- these names are all listed
+abbrev pub lists_all : List (List ℕ) → List (List ℕ) → Bool
+lists_all tags names = list_all (is_among tags) names
+
+-- what these names lack to be those of a table in which each text may stand, if anything
 abbrev pub lacking : List (List ℕ) → Option Reason
 lacking tags =
-    if not (is_among tags (codes "tbody")) then Some NoTableBody
+    if not (lists_all tags (codes "tbody" ∷ codes "thead" ∷ codes "tfoot" ∷ []))
+    then Some NoTableBody
     else if not (is_among tags (codes "tr")) then Some NoRow
-    else if not (is_among tags (codes "td") || is_among tags (codes "th")) then Some NoCell
+    else if not (lists_all tags (codes "td" ∷ codes "th" ∷ [])) then Some NoCell
+    else if not (is_among tags (codes "caption")) then Some NoCaption
     else None
 
 -- why no policy without `table` may list a name, if none may

@@ -1,17 +1,16 @@
 //! Texts made safe for a browser.
-ghost use Rattle.std.specs.Prelude.{Bool, IfOk, List, None, codes, false, true, ℕ, ◌++◌, ◌≡◌};
+ghost use Rattle.std.specs.Prelude.{Bool, IfErr, IfOk, List, None, false, true, ℕ, ◌++◌, ◌≡◌};
 ghost use Rattle.tl_dom_spec.specs.HtmlForest.{HtmlForest};
 ghost use Rattle.tl_dom_spec.specs.HtmlTree.{html_fragment};
 ghost use Rattle.tl_dom_spec.specs.Partial.{without_numbers};
-ghost use Rattle.tl_dom_spec.specs.Tags.{bare_tag};
 ghost use Rattle.tl_html_print.specs.Again.{built_in_div};
 ghost use Rattle.tl_html_print.specs.ReadAgain.{tokens_of_trees};
 ghost use Rattle.tl_html_print.specs.Serialized.{serialized};
-ghost use Rattle.tl_html_spec.specs.HtmlTokenizer.{data_state};
+ghost use Rattle.tl_html_spec.specs.HtmlTokenizer.{data_state, without_mark};
 ghost use Rattle.tl_html_spec.specs.Reader.{at, tokens_of};
 ghost use Rattle.tl_tree.specs.Rows.{rows_of};
 ghost use Rattle.tl_tree.specs.TreeView.{rows_in};
-ghost use Rattle.tl_tree_safe.specs.InDiv.{kept_in_div};
+ghost use Rattle.tl_tree_safe.specs.InDiv.{IsUnreadInDiv, div, is_in_proportion_in_div, kept_in_div, safe_print};
 ghost use Rattle.tl_tree_safe.specs.Joined.{texts_joined};
 ghost use Rattle.tl_tree_safe.specs.KeptFitted.{kept_fitted};
 ghost use Rattle.tl_tree_safe.specs.Listed.{are_listed};
@@ -22,10 +21,22 @@ use crate::sanitizer::sanitize;
 use std::alloc::{AllocError, Global};
 use tl_tree::{Context, Flags, Namespace, ReadError, Tree};
 
+/// A page without its byte order mark, which is no part of its text.
+pub fn without_mark(page: &[u8]) -> &[u8]
+    ensures { result.now ≡ without_mark page.now }
+{
+    if page.starts_with(b"\xEF\xBB\xBF") {
+        &page[3..]
+    } else {
+        page
+    }
+}
+
 // Reads a text as what a `div` holds.
 fn read_in_div(alloc: Global, text: &[u8]) -> Result<Tree<'_>, ReadError>
-    ensures { IfOk result (λ tree. rows_in tree
-        ≡ rows_of (html_fragment (bare_tag (codes "div")) text.now)) }
+    ensures tree { IfOk result (λ tree. rows_in tree ≡ rows_of (html_fragment div text.now)) }
+    ensures in_proportion { IfOk result (λ tree. is_in_proportion_in_div text.now ≡ true) }
+    ensures told { IfErr result (IsUnreadInDiv text.now) }
 {
     let context = Context {
         namespace: Namespace::Html,
@@ -54,14 +65,14 @@ fn print_kept(alloc: Global, policy: &Policy<'_>, tree: &Tree<'_>) -> Result<Vec
 
 /// Reads a text as what a `div` holds, and prints what a policy keeps of it.
 ///
-/// It is refused where memory runs out, and where `Tree::read_fragment` refuses the text.
+/// It is refused where memory runs out, and where `Tree::read_fragment` refuses the text: it or its
+/// trees are too large, or these are out of proportion to it.
 pub fn sanitize_fragment(
     alloc: Global,
     policy: &Policy<'_>,
     text: &[u8],
 ) -> Result<Vec<u8>, ReadError>
-    ensures print { IfOk result (λ page. page.items
-        ≡ serialized false None (kept_in_div (lists_of policy.now) text.now)) }
+    ensures print { IfOk result (λ page. page.items ≡ safe_print (lists_of policy.now) text.now) }
 
     // Also where other markup follows, the standard's tokenizer reads its tags and texts alone.
     ensures read { (rest : List ℕ) → IfOk result (λ page.
@@ -75,6 +86,10 @@ pub fn sanitize_fragment(
         ≡ without_numbers (texts_joined (kept_in_div (lists_of policy.now) text.now))) }
     ensures listed { IfOk result (λ page.
         are_listed (lists_of policy.now) (tokens_of (at data_state) page.items) ≡ true) }
+
+    // When it is refused.
+    ensures in_proportion { IfOk result (λ page. is_in_proportion_in_div text.now ≡ true) }
+    ensures told { IfErr result (IsUnreadInDiv text.now) }
 {
     let tree = read_in_div(alloc, text)?;
     let Ok(page) = print_kept(alloc, policy, &tree) else {

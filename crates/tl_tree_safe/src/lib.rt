@@ -28,7 +28,7 @@ mod writer;
 
 pub use attributes::write_attributes;
 pub use clean::write_cleaned;
-pub use fragment::sanitize_fragment;
+pub use fragment::{sanitize_fragment, without_mark};
 pub use lists::Lists;
 pub use policy::Policy;
 pub use refusal::{PolicyError, Reason};

@@ -3,7 +3,7 @@
 ghost use Rattle.std.specs.Prelude.{None, Some, [], codes, true, ◌∷◌, ◌≡◌};
 ghost use Rattle.tl_tree_safe.specs.OwnLists.{blog_lists};
 ghost use Rattle.tl_tree_safe.specs.Refusals.{first_refusal};
-ghost use Rattle.tl_tree_safe.specs.declared.refusal.Reason.TheVariants.{ActiveScheme, LinkKey, MalformedTag, NoCell, NoRow, NoScheme, NoTable, NoTableBody, OpaqueTag, ScriptKey, StructuralTag, UnlistedMark};
+ghost use Rattle.tl_tree_safe.specs.declared.refusal.Reason.TheVariants.{ActiveScheme, LinkKey, MalformedTag, NoCaption, NoCell, NoRow, NoScheme, NoTable, NoTableBody, OpaqueTag, ScriptKey, StructuralTag, UnlistedMark};
 
 /// Names of tags.
 pub fn tags()
@@ -36,15 +36,29 @@ pub fn attributes()
 pub fn tables()
     ensures no_body { first_refusal (record blog_lists { tags = codes "table" ∷ codes "tr" ∷ [] })
         ≡ Some (codes "table", NoTableBody) }
-    ensures no_row { first_refusal
-        (record blog_lists { tags = codes "table" ∷ codes "tbody" ∷ codes "td" ∷ [] })
-        ≡ Some (codes "table", NoRow) }
-    ensures no_cell { first_refusal
-        (record blog_lists { tags = codes "table" ∷ codes "tbody" ∷ codes "tr" ∷ [] })
-        ≡ Some (codes "table", NoCell) }
+    ensures no_head { first_refusal (record blog_lists {
+      tags =
+          codes "caption" ∷ codes "table" ∷ codes "tbody" ∷ codes "td" ∷ codes "tfoot" ∷
+          codes "th" ∷ codes "tr" ∷ [];
+    }) ≡ Some (codes "table", NoTableBody) }
+    ensures no_row { first_refusal (record blog_lists {
+      tags =
+          codes "table" ∷ codes "tbody" ∷ codes "td" ∷ codes "tfoot" ∷ codes "thead" ∷ [];
+    }) ≡ Some (codes "table", NoRow) }
+    ensures no_cell { first_refusal (record blog_lists {
+      tags =
+          codes "table" ∷ codes "tbody" ∷ codes "td" ∷ codes "tfoot" ∷ codes "thead" ∷
+          codes "tr" ∷ [];
+    }) ≡ Some (codes "table", NoCell) }
+    ensures no_caption { first_refusal (record blog_lists {
+      tags =
+          codes "table" ∷ codes "tbody" ∷ codes "td" ∷ codes "tfoot" ∷ codes "th" ∷
+          codes "thead" ∷ codes "tr" ∷ [];
+    }) ≡ Some (codes "table", NoCaption) }
     ensures whole { first_refusal (record blog_lists {
       tags =
-          codes "th" ∷ codes "tr" ∷ codes "tbody" ∷ codes "table" ∷ [];
+          codes "caption" ∷ codes "th" ∷ codes "td" ∷ codes "tr" ∷ codes "thead" ∷ codes "tfoot" ∷
+          codes "tbody" ∷ codes "table" ∷ [];
     }) ≡ None }
     ensures no_table { first_refusal
         (record blog_lists { tags = codes "p" ∷ codes "caption" ∷ codes "td" ∷ [] })

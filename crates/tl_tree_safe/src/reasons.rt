@@ -1,7 +1,7 @@
 //! Why no policy may list a word.
-ghost use Rattle.std.specs.Prelude.{◌≡◌};
+ghost use Rattle.std.specs.Prelude.{[], codes, ◌∷◌, ◌≡◌};
 ghost use Rattle.tl_safe_fit.specs.Words.{words_of};
-ghost use Rattle.tl_tree_safe.specs.Refusals.{key_reason, lacking, link_reason, part_reason, prefix_reason, tag_reason};
+ghost use Rattle.tl_tree_safe.specs.Refusals.{key_reason, lacking, link_reason, lists_all, part_reason, prefix_reason, tag_reason};
 
 use crate::names::{
     ByteClass, all_have_class, begins_path, has_active_scheme, has_scheme, is_active_key,
@@ -81,16 +81,33 @@ pub(crate) fn part_reason(name: &[u8]) -> Option<Reason>
     }
 }
 
-/// What these names lack to be those of a table in which a text can stand, if anything.
+// Whether the groups of rows are all listed.
+fn lists_bodies(tags: &[&str]) -> bool
+    ensures { result ≡ lists_all (words_of tags.now)
+        (codes "tbody" ∷ codes "thead" ∷ codes "tfoot" ∷ []) }
+{
+    is_among(tags, b"tbody") && is_among(tags, b"thead") && is_among(tags, b"tfoot")
+}
+
+// Whether both kinds of cells are.
+fn lists_cells(tags: &[&str]) -> bool
+    ensures { result ≡ lists_all (words_of tags.now) (codes "td" ∷ codes "th" ∷ []) }
+{
+    is_among(tags, b"td") && is_among(tags, b"th")
+}
+
+/// What these names lack to be those of a table in which each text may stand, if anything.
 pub(crate) fn lacking(tags: &[&str]) -> Option<Reason>
     ensures { result ≡ lacking (words_of tags.now) }
 {
-    if !is_among(tags, b"tbody") {
+    if !lists_bodies(tags) {
         Some(Reason::NoTableBody)
     } else if !is_among(tags, b"tr") {
         Some(Reason::NoRow)
-    } else if !(is_among(tags, b"td") || is_among(tags, b"th")) {
+    } else if !lists_cells(tags) {
         Some(Reason::NoCell)
+    } else if !is_among(tags, b"caption") {
+        Some(Reason::NoCaption)
     } else {
         None
     }

@@ -29,12 +29,14 @@ pub enum Reason {
     MalformedPrefix,
     /// Links are marked at this key, so it has to be listed, and not as one that holds links.
     UnlistedMark,
-    /// Without `tbody` no row stands in a table.
+    /// Without `tbody`, `thead` and `tfoot` rows of a table lose their texts.
     NoTableBody,
-    /// Without `tr` no cell stands in a table.
+    /// Without `tr` all rows do.
     NoRow,
-    /// Without `td` and `th` no text stands in a table.
+    /// Without `td` and `th` cells do.
     NoCell,
+    /// Without `caption` captions do.
+    NoCaption,
     /// A part of a table stands in a `table` alone.
     NoTable,
 }
@@ -49,6 +51,7 @@ impl Reason {
             | Reason::NoTableBody
             | Reason::NoRow
             | Reason::NoCell
+            | Reason::NoCaption
             | Reason::NoTable => "no policy may list the tag",
             Reason::MalformedKey | Reason::ScriptKey | Reason::ActiveKey | Reason::LinkKey => {
                 "no policy may list the key"
@@ -81,9 +84,11 @@ impl fmt::Display for Reason {
             }
             Reason::MalformedPrefix => "a prefix is a letter of a-z, and then letters and `-`",
             Reason::UnlistedMark => "it is no listed key, or a link key",
-            Reason::NoTableBody => "`tbody` is missing, without which a table has no rows",
-            Reason::NoRow => "`tr` is missing, without which a table has no cells",
-            Reason::NoCell => "`td` or `th` is missing, without which a table has no texts",
+            Reason::NoTableBody =>
+                "`tbody`, `thead` or `tfoot` is missing, so rows lose their texts",
+            Reason::NoRow => "`tr` is missing, so rows lose their texts",
+            Reason::NoCell => "`td` or `th` is missing, so cells lose their texts",
+            Reason::NoCaption => "`caption` is missing, so captions lose their texts",
             Reason::NoTable => "`table` is missing, in which alone it may stand",
         })
     }
