@@ -209,9 +209,9 @@ What people type into a comment stays as they typed it.
   $ printf '%s' 'see <- here and on' | tl sanitize
   see &lt;- here and on (no-eol)
   $ printf '%s' 'x << 2 and y >> 1' | tl sanitize
-  x &lt;&lt; 2 and y >> 1 (no-eol)
+  x &lt;&lt; 2 and y &gt;&gt; 1 (no-eol)
   $ printf '%s' 'a <= b, c >= d. Done.' | tl sanitize
-  a &lt;= b, c >= d. Done. (no-eol)
+  a &lt;= b, c &gt;= d. Done. (no-eol)
   $ printf '%s' 'price <$5, ok?' | tl sanitize
   price &lt;$5, ok? (no-eol)
   $ printf '%s' '<a href=/x>y</a>' | tl sanitize

@@ -24,25 +24,25 @@ What stands in these is no markup, in any case of their names.
 The end of what is no markup stands in a value.
 
   $ printf '<style><a title="</style><img src=x onerror=1>">x</a></style>' | tl sanitize
-  <img>">x (no-eol)
+  <img>"&gt;x (no-eol)
   $ printf '<title><p title="</title><img src=x onerror=\047steal()\047>">x</p></title>' | tl sanitize
-  <img>">x<p></p> (no-eol)
+  <img>"&gt;x<p></p> (no-eol)
   $ printf '<textarea><p title="</textarea><img src=x onerror=\047steal()\047>">x</p></textarea>' | tl sanitize
-  <img>">x<p></p> (no-eol)
+  <img>"&gt;x<p></p> (no-eol)
   $ printf '<noscript><p title="</noscript><img src=x onerror=\047steal()\047>">x</p></noscript>' | tl sanitize
   $ printf '<xmp><p title="</xmp><img src=x onerror=\047steal()\047>">x</p></xmp>' | tl sanitize
-  <img>">x<p></p> (no-eol)
+  <img>"&gt;x<p></p> (no-eol)
   $ printf '<iframe><p title="</iframe><img src=x onerror=\047steal()\047>">x</p></iframe>' | tl sanitize
-  <img>">x<p></p> (no-eol)
+  <img>"&gt;x<p></p> (no-eol)
   $ printf '<noembed><p title="</noembed><img src=x onerror=\047steal()\047>">x</p></noembed>' | tl sanitize
-  <img>">x<p></p> (no-eol)
+  <img>"&gt;x<p></p> (no-eol)
   $ printf '<noframes><p title="</noframes><img src=x onerror=\047steal()\047>">x</p></noframes>' | tl sanitize
-  <img>">x<p></p> (no-eol)
+  <img>"&gt;x<p></p> (no-eol)
 
 Elements of other languages.
 
   $ printf '<SvG><p>a</p></SvG>b' | tl sanitize
-  b (no-eol)
+  <p>a</p>b (no-eol)
   $ printf '<sVg><a href="/x">y</a></sVg>z' | tl sanitize
   z (no-eol)
   $ printf '<svg onload="steal()"></svg>x' | tl sanitize
@@ -51,6 +51,7 @@ Elements of other languages.
   $ printf '<svg><style><a title="</style><img src=x onerror=\047steal()\047>">x</a></style></svg>y' | tl sanitize
   y (no-eol)
   $ printf '<svg></p><style><a id="</style><img src=1 onerror=\047steal()\047>">' | tl sanitize
+  <p></p><img>"&gt; (no-eol)
   $ printf '<math><mtext><mglyph><style><a title="</style><img src=x onerror=\047steal()\047>">x</a></style></mglyph></mtext></math>y' | tl sanitize
   y (no-eol)
   $ printf '<math><annotation-xml encoding="text/html"><style><img title="</style><img src=x onerror=\047steal()\047>"></style></annotation-xml></math>' | tl sanitize
@@ -60,7 +61,7 @@ Elements of other languages.
   $ printf '<svg><desc><style><p title="</style><img src=x onerror=\047steal()\047>">x</p></style></desc></svg>y' | tl sanitize
   y (no-eol)
   $ printf '<svg><![CDATA[<p title="]]><img src=x onerror=\047steal()\047>">x</p>]]></svg>y' | tl sanitize
-  y (no-eol)
+  <img>"&gt;x<p></p>]]&gt;y (no-eol)
   $ printf '<desc><p>x</p></desc>' | tl sanitize
   <p>x</p> (no-eol)
   $ printf '<mglyph><b>x</b></mglyph>' | tl sanitize
@@ -71,9 +72,9 @@ Tags that change what is around them, or load a document.
   $ printf '<table><tr><td>x</td></tr></table>' | tl sanitize
   x (no-eol)
   $ printf '<template><img src=x onerror="steal()"></template>y' | tl sanitize
-  <img>y (no-eol)
+  y (no-eol)
   $ printf '<select><style><p title="</style></select><img src=x onerror=\047steal()\047>">x</p></style></select>y' | tl sanitize
-  <img>">x<p></p>y (no-eol)
+  <img>"&gt;x<p></p>y (no-eol)
   $ printf '<table><p>x<tr><td>y</td></tr></table>' | tl sanitize
   <p>x</p>y (no-eol)
   $ printf '<form><button formaction="javascript:steal()">x</button></form>' | tl sanitize
@@ -93,6 +94,7 @@ Tags that change what is around them, or load a document.
   $ printf '<frameset onload="steal()"><frame src="javascript:steal()"></frameset>x' | tl sanitize
   x (no-eol)
   $ printf '<image src=x onerror="steal()">' | tl sanitize
+  <img> (no-eol)
   $ printf '<isindex action="javascript:steal()" type="image">x' | tl sanitize
   x (no-eol)
 
@@ -177,7 +179,7 @@ Links within the site, and those that look like it and lead to another host.
   $ printf '<a href="/&Tab;/e/x">c</a>' | tl sanitize
   <a>c</a> (no-eol)
   $ printf '<a href="/<e">c</a>' | tl sanitize
-  <a>c</a> (no-eol)
+  <a href="/&lt;e">c</a> (no-eol)
   $ printf '<a href="/e<">c</a>' | tl sanitize
   <a href="/e&lt;">c</a> (no-eol)
   $ printf '<img src alt="x">' | tl sanitize
@@ -214,31 +216,31 @@ What may end what is no markup stands in a value.
 Comments and doctypes, what a browser takes for their end, and what looks like them.
 
   $ printf '<!--x--!><img src=x onerror="steal()">-->' | tl sanitize
-  <img>--> (no-eol)
+  <img>--&gt; (no-eol)
   $ printf '< !-- <img src=x onerror="steal()"> -->' | tl sanitize
-  &lt; !-- <img> --> (no-eol)
+  &lt; !-- <img> --&gt; (no-eol)
   $ printf '<!--><img src=x onerror="steal()">-->x' | tl sanitize
-  <img>-->x (no-eol)
+  <img>--&gt;x (no-eol)
   $ printf '<!---><img src=x onerror="steal()">-->x' | tl sanitize
-  <img>-->x (no-eol)
+  <img>--&gt;x (no-eol)
   $ printf '<\n!-- <img src=x onerror="steal()"> -->' | tl sanitize
   &lt;
-  !-- <img> --> (no-eol)
+  !-- <img> --&gt; (no-eol)
   $ printf '<p title="<!--">a</p><p title="--!><img src=x onerror=\047steal()\047>">b</p>' | tl sanitize
   <p title="&lt;!--">a</p><p title="--!&gt;&lt;img src=x onerror='steal()'&gt;">b</p> (no-eol)
   $ printf '<!x><p title="x">a</p><! <img src=x onerror="steal()">' | tl sanitize
   <p title="x">a</p> (no-eol)
   $ printf '<?x <p>y?><img src=x onerror="steal()">' | tl sanitize
-  y?><img> (no-eol)
+  y?&gt;<img> (no-eol)
   $ printf '<!DOCTYPE html><p>x</p>' | tl sanitize
   <p>x</p> (no-eol)
   $ printf '<!doctype html SYSTEM "><img src=x onerror=steal()>"><p>x</p>' | tl sanitize
-  <img>"><p>x</p> (no-eol)
+  <img>"&gt;<p>x</p> (no-eol)
   $ printf '<!--x' | tl sanitize
   $ printf '<![CDATA[<p>x</p>]]>' | tl sanitize
-  x<p></p>]]> (no-eol)
+  x<p></p>]]&gt; (no-eol)
   $ printf '&lt;!--<b>x</b>--&gt;' | tl sanitize
-  &lt;!--<b>x</b>--> (no-eol)
+  &lt;!--<b>x</b>--&gt; (no-eol)
   $ printf '<!--' | tl sanitize
 
 Quotes, and what stands between them.
@@ -251,7 +253,7 @@ Quotes, and what stands between them.
   $ printf '<p title=\047"onmouseover="steal()\047>x</p>' | tl sanitize
   <p title="&quot;onmouseover=&quot;steal()">x</p> (no-eol)
   $ printf '<p title=`"><img src=x onerror=steal()>`>x</p>' | tl sanitize
-  <p title="`&quot;"><img>`>x</p> (no-eol)
+  <p title="`&quot;"><img>`&gt;x</p> (no-eol)
   $ printf '<p title="a\047b">x</p>' | tl sanitize
   <p title="a'b">x</p> (no-eol)
   $ printf '<p title=a"b>x</p>' | tl sanitize
@@ -274,7 +276,7 @@ How tags begin and end, and stand in one another.
   $ printf '</ <img src=x onerror="steal()">x' | tl sanitize
   x (no-eol)
   $ printf '< img src=x onerror="steal()">x' | tl sanitize
-  &lt; img src=x onerror="steal()">x (no-eol)
+  &lt; img src=x onerror="steal()"&gt;x (no-eol)
   $ printf '<<img src=x onerror="steal()">x' | tl sanitize
   &lt;<img>x (no-eol)
   $ printf '<img\tsrc=x\tonerror=steal()>x' | tl sanitize
@@ -282,15 +284,15 @@ How tags begin and end, and stand in one another.
   $ printf '<img\014src=x\014onerror=steal()>x' | tl sanitize
   <img>x (no-eol)
   $ printf '<scr<script>ipt>steal()</script>x' | tl sanitize
-  ipt>steal()x (no-eol)
+  ipt&gt;steal()x (no-eol)
   $ printf '<a href="/x" / onclick="steal()">c</a>' | tl sanitize
   <a href="/x">c</a> (no-eol)
   $ printf '<b>a<i>b</b>c</i>' | tl sanitize
-  <b>a<i>b</i></b>c (no-eol)
+  <b>a<i>b</i></b><i>c</i> (no-eol)
   $ printf 'x<y>z' | tl sanitize
   xz (no-eol)
   $ printf 'a < b > c' | tl sanitize
-  a &lt; b > c (no-eol)
+  a &lt; b &gt; c (no-eol)
   $ printf '</p>' | tl sanitize
   <p></p> (no-eol)
 
@@ -345,15 +347,17 @@ Another character set, byte 0, and characters beyond ASCII.
   $ printf '<scr\000ipt>steal()</scr\000ipt>x' | tl sanitize
   steal()x (no-eol)
   $ printf '<img src="/x" alt="\033$@">ab \033(B<b title=" onerror=steal() ">c</b>' | tl sanitize
-  <img src="/x">ab (B<b title=" onerror=steal() ">c</b> (no-eol)
+  <img src="/x" alt="$@">ab (B<b title=" onerror=steal() ">c</b> (no-eol)
   $ printf '<p title="\033$B">a</p>\033(B<p title=" onerror=steal() ">b</p>' | tl sanitize
-  <p>a</p>(B<p title=" onerror=steal() ">b</p> (no-eol)
+  <p title="$B">a</p>(B<p title=" onerror=steal() ">b</p> (no-eol)
   $ printf 'a\000b' | tl sanitize
   ab (no-eol)
   $ printf '<p title="a\000b">c</p>' | tl sanitize
   <p title="a�b">c</p> (no-eol)
   $ printf '\000<\000p\000>x' | tl sanitize
-  &lt;p>x (no-eol)
+  &lt;p&gt;x (no-eol)
+  $ printf '\357\273\277x' | tl sanitize
+  x (no-eol)
   $ printf 'é\342\200\250東' | tl sanitize
   é\u{2028}東 (esc) (no-eol)
 
@@ -362,20 +366,20 @@ Texts that are no tags.
   $ printf '<p title="{{steal()}}">{{steal()}}</p>' | tl sanitize
   <p title="{{steal()}}">{{steal()}}</p> (no-eol)
   $ printf '&lt;img src=x onerror=steal()&gt;' | tl sanitize
-  &lt;img src=x onerror=steal()> (no-eol)
+  &lt;img src=x onerror=steal()&gt; (no-eol)
   $ printf '<p>&lt;script&gt;steal()&lt;/script&gt;</p>' | tl sanitize
-  <p>&lt;script>steal()&lt;/script></p> (no-eol)
+  <p>&lt;script&gt;steal()&lt;/script&gt;</p> (no-eol)
   $ printf 'a>b"c\047d&e' | tl sanitize
-  a>b"c'd&amp;e (no-eol)
+  a&gt;b"c'd&amp;e (no-eol)
   $ printf '<' | tl sanitize
   &lt; (no-eol)
   $ printf '' | tl sanitize
 
 By a policy for tables and videos.
 
-  $ echo '--tags table,tr,td,video --keys data-x,src,id --link-keys src --links ftp:,./ --prefix v' >videos
+  $ echo '--tags caption,table,tbody,td,tfoot,th,thead,tr,video --keys data-x,src,id --link-keys src --links ftp:,./ --prefix v' >videos
   $ printf '<table><tr><td>x</td></tr></table>' | tl sanitize $(cat videos)
-  <table></table> (no-eol)
+  <table><tbody><tr><td>x</td></tr></tbody></table> (no-eol)
   $ printf '<p>x</p>' | tl sanitize $(cat videos)
   x (no-eol)
   $ printf '<video src="javascript:steal()" data-x="javascript:steal()">x</video>' | tl sanitize $(cat videos)
@@ -391,7 +395,7 @@ By a policy for tables and videos.
   $ printf '<video class="v1">x</video>' | tl sanitize $(cat videos)
   <video>x</video> (no-eol)
   $ printf '<table> <script>steal()</script><TR><td>x' | tl sanitize $(cat videos)
-  <table> </table> (no-eol)
+  <table> <tbody><tr><td>x</td></tr></tbody></table> (no-eol)
 
 Links beside the page, by the policy for documents; that for a blog drops them.
 
@@ -434,7 +438,7 @@ Links that are marked.
   $ printf '<a href="https://e/x">y</a>' | tl sanitize $(cat marked)
   <a rel="nofollow noopener" href="https://e/x">y</a> (no-eol)
   $ printf '<a title=z href="https://e/x" class=user-y id=user-z>y</a>' | tl sanitize $(cat marked)
-  <a rel="nofollow noopener" title="z" href="https://e/x" id="user-z" class="user-y">y</a> (no-eol)
+  <a rel="nofollow noopener" title="z" href="https://e/x" class="user-y" id="user-z">y</a> (no-eol)
   $ printf '<a rel="follow" href="/x">y</a>' | tl sanitize $(cat marked)
   <a rel="nofollow noopener" href="/x">y</a> (no-eol)
   $ printf '<a href="/x" rel>y</a>' | tl sanitize $(cat marked)
@@ -519,11 +523,11 @@ Tags that end others, and that may not stand in one another.
 
 Tables and ruby.
 
-  $ echo '--tags caption,col,colgroup,p,rb,rt,rtc,ruby,table,tbody,td,tr' >ruby
+  $ echo '--tags caption,col,colgroup,p,rb,rt,rtc,ruby,table,tbody,td,tfoot,th,thead,tr' >ruby
   $ printf '<table><tr><td>a<td>b<tr><td>c' | tl sanitize $(cat ruby)
   <table><tbody><tr><td>a</td><td>b</td></tr><tr><td>c</td></tr></tbody></table> (no-eol)
   $ printf '<table>x<tr>y<td>z</td></tr></table>w' | tl sanitize $(cat ruby)
-  <table><tbody><tr><td>z</td></tr></tbody></table>w (no-eol)
+  xy<table><tbody><tr><td>z</td></tr></tbody></table>w (no-eol)
   $ printf '<table> <tr> <td>x</td> </tr> </table>' | tl sanitize $(cat ruby)
   <table> <tbody><tr> <td>x</td> </tr> </tbody></table> (no-eol)
   $ printf '<table><caption>x<td>y' | tl sanitize $(cat ruby)
@@ -535,7 +539,7 @@ Tables and ruby.
   $ printf '<table><tr><td><table><tr><td>x</td></tr></table>y' | tl sanitize $(cat ruby)
   <table><tbody><tr><td><table><tbody><tr><td>x</td></tr></tbody></table>y</td></tr></tbody></table> (no-eol)
   $ printf '<table><table>x' | tl sanitize $(cat ruby)
-  <table></table><table></table> (no-eol)
+  <table></table>x<table></table> (no-eol)
   $ printf '<tr><td>x' | tl sanitize $(cat ruby)
   x (no-eol)
   $ printf '<table><tbody><td>x</tbody><tr>' | tl sanitize $(cat ruby)
@@ -544,6 +548,20 @@ Tables and ruby.
   <ruby>a<rt>b</rt><rt>c</rt></ruby>d (no-eol)
   $ printf '<ruby>a<rtc>b<rt>c<rb>d</ruby>' | tl sanitize $(cat ruby)
   <ruby>a<rtc>b<rt>c</rt></rtc><rb>d</rb></ruby> (no-eol)
+
+Nothing that a browser shows of a table is lost.
+
+  $ printf '<table><caption>a<thead><tr><th>b<tfoot><tr><td>c</table>' | tl sanitize --documents
+  <table><caption>a</caption><thead><tr><th>b</th></tr></thead><tfoot><tr><td>c</td></tr></tfoot></table> (no-eol)
+  $ printf '<table><form>a<tr><b>b<td>c<select><option>d</select>' | tl sanitize --documents
+  a<b>b</b><table><tbody><tr><td>cd</td></tr></tbody></table> (no-eol)
+
+As what a `div` holds, a page whose tree is out of proportion to it.
+
+  $ python3 -c 'print("<p>" + "".join(f"<b id={it}>" for it in range(300)) + "<p>x" * 300, end="")' >wide
+  $ tl sanitize wide
+  tl: wide: its tree is out of proportion at byte 3809 (err)
+  [2]
 
 More tags in one another than may be open.
 
@@ -596,6 +614,21 @@ Lists with one word that is refused, before a page is looked at.
   [2]
   $ tl sanitize --keys href,rel --link-keys href,rel --nofollow-links none
   tl: no policy may mark links at `rel`: it is no listed key, or a link key (err)
+  [2]
+  $ tl sanitize --tags table,tr,td none
+  tl: no policy may list the tag `table`: `tbody`, `thead` or `tfoot` is missing, so rows lose their texts (err)
+  [2]
+  $ tl sanitize --tags table,tbody,tfoot,thead,td,th none
+  tl: no policy may list the tag `table`: `tr` is missing, so rows lose their texts (err)
+  [2]
+  $ tl sanitize --tags table,tbody,tfoot,thead,td,tr none
+  tl: no policy may list the tag `table`: `td` or `th` is missing, so cells lose their texts (err)
+  [2]
+  $ tl sanitize --tags table,tbody,tfoot,thead,td,th,tr none
+  tl: no policy may list the tag `table`: `caption` is missing, so captions lose their texts (err)
+  [2]
+  $ tl sanitize --tags p,td none
+  tl: no policy may list the tag `td`: `table` is missing, in which alone it may stand (err)
   [2]
 
 Several are, and the first of them is named.

@@ -1,5 +1,5 @@
 -- What is made of a page.
-use Rattle.std.specs.Prelude.{List, [], if◌then◌else◌, length, nat_le, ℕ, ⊤, ◌≡◌}
+use Rattle.std.specs.Prelude.{List, [], true, ℕ, ⊤, ◌≡◌}
 use Rattle.tl_answers.specs.Answers.{AreSelected}
 use Rattle.tl_answers.specs.Findings.{Finding, whole}
 use Rattle.tl_answers.specs.Pages.{IsAnswered, IsUnread, searched}
@@ -7,41 +7,22 @@ use Rattle.tl_cli.specs.declared.task.Task.{Task}
 use Rattle.tl_cli.specs.declared.task.Task.TheVariants.{Ask, Sanitize}
 use Rattle.tl_cli.specs.declared.task.Unmade.{Unmade}
 use Rattle.tl_cli.specs.declared.task.Unmade.TheVariants.{Failed, OutOfProportion, TooLarge}
-use Rattle.tl_html_spec.specs.HtmlForm.{html_form}
-use Rattle.tl_page.specs.Outcome.{Fails, Outcome, not_understood, success}
-use Rattle.tl_page.specs.Page.{IsPage, is_page, outcome_in}
+use Rattle.tl_html_spec.specs.HtmlTokenizer.{without_mark}
+use Rattle.tl_page.specs.Page.{IsPage}
 use Rattle.tl_page.specs.declared.failure.Failure.{Failure}
 use Rattle.tl_page.specs.declared.failure.Failure.TheVariants.{Fault, NotUnderstood, OutOfMemory, Refused}
-use Rattle.tl_safe.specs.Filter.{trees_of}
-use Rattle.tl_safe.specs.KeptFitted.{kept_fitted}
-use Rattle.tl_safe.specs.Lists.{ListedWords}
-use Rattle.tl_safe.specs.Policies.{lists_of}
-use Rattle.tl_spec.specs.Lex.ByteClass.{largest_u32}
-use Rattle.tl_spec.specs.Print.{print}
 use Rattle.tl_tree.specs.declared.error.ReadError.{ReadError}
 use Rattle.tl_tree.specs.declared.error.ReadError.TheVariants as unread
+use Rattle.tl_tree_safe.specs.InDiv.{IsUnreadInDiv, is_in_proportion_in_div, safe_print}
+use Rattle.tl_tree_safe.specs.Lists.{ListedWords}
+use Rattle.tl_tree_safe.specs.OfPolicy.{lists_of}
 
 -- Safe pages
 
--- the print of what lists let stand of a text
-abbrev pub safe_of : ListedWords → List ℕ → Outcome Finding
-safe_of lists text =
-    outcome_in (λ d. success (whole (print (kept_fitted lists (trees_of text))))) text
-
--- what is made of the form of a page; a page that is no text, or too long, is not understood
-abbrev pub outcome_read : {X : Type 0} → (List ℕ → Outcome X) → List ℕ → Outcome X
-outcome_read make page = if is_page page then make (html_form page) else not_understood
-
--- the form of a page, where both are short enough to be read
-abbrev pub form_in : List ℕ → Outcome (List ℕ)
-form_in page =
-    outcome_read
-    (λ form. if nat_le (length form) largest_u32 then success form else not_understood)
-    page
-
--- the print of what lists let stand of a page
-abbrev pub safe_in : ListedWords → List ℕ → Outcome Finding
-safe_in lists page = outcome_read (safe_of lists) page
+-- what lists let stand of a page, which is read as what a `div` holds, printed
+pub record IsMadeSafe (lists : ListedWords) (page : List ℕ) (finding : Finding) : Type 0 where
+  pub in_proportion : is_in_proportion_in_div (without_mark page) ≡ true
+  pub print : finding ≡ whole (safe_print lists (without_mark page))
 
 -- Tasks
 
@@ -53,8 +34,7 @@ AreSelectedIn (Sanitize policy) page ns = ns ≡ []
 -- what a task makes of a page
 abbrev pub IsMade : Task → List ℕ → List ℕ → List ℕ → Finding → Type 0
 IsMade (Ask question) ns end page finding = IsAnswered question ns end page finding
-IsMade (Sanitize policy) ns end page finding =
-    safe_in (lists_of policy) page ≡ success finding
+IsMade (Sanitize policy) ns end page finding = IsMadeSafe (lists_of policy) page finding
 
 -- a page that is no text, or too long, is not understood; else memory ran out
 abbrev pub IsNoPage : List ℕ → Failure → Type 0
@@ -69,12 +49,17 @@ IsUnanswered page (Failed failure) = IsNoPage page failure
 IsUnanswered page (OutOfProportion at) = IsUnread page (unread.OutOfProportion at)
 IsUnanswered page TooLarge = ⊤
 
+-- why it isn't made safe; bytes are counted behind a byte order mark
+abbrev pub IsUnsafe : List ℕ → Unmade → Type 0
+IsUnsafe page (Failed failure) = IsNoPage page failure
+IsUnsafe page (OutOfProportion at) =
+    IsUnreadInDiv (without_mark page) (unread.OutOfProportion at)
+IsUnsafe page TooLarge = ⊤
+
 -- why a task makes nothing of it
 abbrev pub IsUnmade : Task → List ℕ → Unmade → Type 0
 IsUnmade (Ask question) page why = IsUnanswered page why
-IsUnmade (Sanitize policy) page (Failed failure) = Fails (safe_in (lists_of policy) page) failure
-IsUnmade (Sanitize policy) page (OutOfProportion at) = ⊥
-IsUnmade (Sanitize policy) page TooLarge = ⊥
+IsUnmade (Sanitize policy) page why = IsUnsafe page why
 
 -- want of memory is told as such
 abbrev pub unmade_of : ReadError → Unmade

@@ -18,7 +18,7 @@ use tl_commands::{Verb, program};
 use tl_css::{Selector, SelectorError, parse};
 use tl_encoding::Encoding;
 use tl_page::VERSION;
-use tl_safe::{ListTexts, Lists};
+use tl_tree_safe::{ListTexts, Lists};
 
 /// What is written of pages.
 #[derive(Clone, Copy, PartialEq, Eq)]

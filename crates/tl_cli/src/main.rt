@@ -35,7 +35,7 @@ use std::process::ExitCode;
 use task::Task;
 use terminal::Terminal;
 use tl_page::{Cause, Failure};
-use tl_safe::{ListTexts, Lists, Policy, WordLists, lines_of};
+use tl_tree_safe::{ListTexts, Lists, Policy, WordLists, lines_of};
 
 fn main(rt: HostRuntime) -> ExitCode {
     match run(&rt) {

@@ -1,7 +1,7 @@
 //! What is made of the pages in files.
 ghost use Rattle.std.specs.Prelude.{◌≡◌, IfErr, IfOk, IfSome, take};
 ghost use Rattle.tl_page.specs.declared.failure.Failure.TheVariants.{NotUnderstood, OutOfMemory};
-ghost use Rattle.tl_safe.specs.Names.{words_of};
+ghost use Rattle.tl_safe_fit.specs.Words.{words_of};
 ghost use Rattle.tl_cli.specs.Reports.{AreReports};
 ghost use Rattle.tl_cli.specs.declared.reports.Answer.TheVariants.{Failed};
 
@@ -171,24 +171,14 @@ fn no_text(rt: &HostRuntime, pages: &Pages<'_>, file: &str, error: &DecodeError)
     }
 }
 
-// Why there is nothing of a page whose form can't be read.
-#[derive(Clone, Copy)]
-struct LongForm;
-
-impl fmt::Display for LongForm {
-    fn fmt<W: fmt::Write>(&self, f: &mut fmt::Formatter<W>) -> fmt::Result {
-        f.write_str("its form is too long")
-    }
-}
-
-// Says on standard error why the text of a page is not understood: it is too long, or its form is.
-fn too_long(rt: &HostRuntime, file: &str, page: &[u8]) -> Answer
+// Says on standard error why a page is not understood: it is no text, or too long.
+fn no_page(rt: &HostRuntime, file: &str, page: &[u8]) -> Answer
     ensures { result ≡ Failed NotUnderstood }
 {
-    match text(page) {
-        Ok(_) => not_understood(rt, file, &LongForm),
-        Err(error) => not_understood(rt, file, &error),
+    if let Err(error) = text(page) {
+        let _ = not_understood(rt, file, &error);
     }
+    Answer::Failed(Failure::NotUnderstood)
 }
 
 // Why the tree of a page isn't read.
@@ -212,7 +202,7 @@ impl fmt::Display for UnreadTree {
 // Says on standard error why nothing is made of a page, but for what fails whatever it says.
 fn unmade(rt: &HostRuntime, file: &str, text: &[u8], why: Unmade) -> Result<Answer, Failure> {
     match why {
-        Unmade::Failed(Failure::NotUnderstood) => Ok(too_long(rt, file, text)),
+        Unmade::Failed(Failure::NotUnderstood) => Ok(no_page(rt, file, text)),
         Unmade::Failed(failure) => Err(failure),
         Unmade::OutOfProportion(place) => Ok(not_understood(
             rt,

@@ -10,7 +10,7 @@ Examples:
 
 Pages are read into the tree that browsers build of them: with html, head, body
 and tbody put in, end tags that may be left out, character references, and what
-stands wrongly moved. set and its like, and sanitize, read the page's own tags.
+stands wrongly moved; set and its like read the tags that the page itself has.
 Without --encoding a page is in what its byte-order mark says, else UTF-8 if it
 can be, else what its <meta charset> says. What is written is UTF-8.
 

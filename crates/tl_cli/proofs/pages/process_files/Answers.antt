@@ -1,7 +1,7 @@
 use Rattle.std.proofs.Common.{◌≤◌, ℕ, Bool, List, [], append-nil, drop, length, refl, subst, sym}
 use Rattle.std.proofs.lemmas.List.{drop_all}
 use Rattle.std.specs.Borrow.{Bor}
-use Rattle.tl_safe.specs.Names.{words_of}
+use Rattle.tl_safe_fit.specs.Words.{words_of}
 use Rattle.tl_cli.specs.Reports.{AreReports}
 use Rattle.tl_cli.specs.declared.reports.Report.{Report}
 use Rattle.tl_cli.proofs.pages.process_files.Goals as goal

@@ -1,5 +1,5 @@
 use Rattle.std.proofs.Common.{List, ◌++◌, drop}
-use Rattle.tl_safe.specs.Names.{words_of}
+use Rattle.tl_safe_fit.specs.Words.{words_of}
 use Rattle.tl_cli.specs.Reports.{AreReports}
 use Rattle.tl_cli.specs.declared.reports.Report.{Report}
 use Rattle.tl_cli.proofs.pages.process_files.Given as goal
