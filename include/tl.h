@@ -9,11 +9,11 @@
  * items. `*needed` is the number of items of the answer. What is returned is one of these:
  *
  *   TL_DONE            the answer stands in the first `*needed` items of `out`, and the rest of `out` is as it was
- *   TL_REFUSED         the selector is none, a step asks for a node or a place that isn't there, or what is asked for isn't there:
- *                      no document, no such node, no such value; `*needed` is 0
- *   TL_NOT_UNDERSTOOD  an argument is no UTF-8, a page has more than 4294967295 bytes, lines say no steps, or nothing that can be
- *                      asked for is asked; `*needed` is 0
- *   TL_OUT_OF_MEMORY   memory ran out; `*needed` is 0
+ *   TL_REFUSED         the selector is none, or what is asked for isn't there: no document, no such node, no such value; `*needed`
+ *                      is 0
+ *   TL_NOT_UNDERSTOOD  an argument is no UTF-8, a page has more than 4294967295 bytes, its tree is out of proportion to it
+ *                      (`tl_parse_html` says when), or nothing that can be asked for is asked; `*needed` is 0
+ *   TL_OUT_OF_MEMORY   memory ran out, or the numbers of 32 bits for the parts of a tree did; `*needed` is 0
  *   TL_NO_ROOM         the answer has `*needed` items, which is more than `room`: lend as many and call again
  *
  * With all but TL_DONE `out` is as it was. But for TL_OUT_OF_MEMORY what is lent, `room` and the document determine all of it: this is proved,
@@ -22,7 +22,8 @@
  *
  * Lengths     are in bytes, also of texts. Nothing ends with a byte 0, and texts may hold some.
  * Texts       are UTF-8, those that come out too.
- * Numbers     The nodes of a document are counted from 0 in the order of the text. Node 0 is the first at the top.
+ * Numbers     The nodes of a document are counted from 0 in the order of its tree: a node comes before what is below it, and that
+ *             before the sibling behind it. Node 0 is the first at the top.
  * Memory      A call keeps no pointer. The calls with a page give back all memory that they took before they return; a document
  *             keeps its own until `tl_free`.
  * Threads     There is no state between calls with a page: any number of threads may call at once. Threads take turns with a document.
@@ -80,43 +81,10 @@ static inline const char *tl_status_text(tl_status status) {
 
 /* Calls with a page. */
 
-/* The page as it was read: with each tag ended, and without what was dropped. */
-tl_status tl_print(const uint8_t *page, size_t page_len,
-                   uint8_t *out, size_t room, size_t *needed);
-
-/* The texts of the page in order, without tags and comments. */
-tl_status tl_text(const uint8_t *page, size_t page_len,
-                  uint8_t *out, size_t room, size_t *needed);
-
-/* The page after steps, one on each line, as "set 0 href /x"; docs/COMMANDS.md lists them. A page that a step hangs into a circle is
- * refused. */
-tl_status tl_edit(const uint8_t *steps, size_t steps_len,
-                  const uint8_t *page, size_t page_len,
-                  uint8_t *out, size_t room, size_t *needed);
-
-/* What can be asked of a node. */
-enum {
-    TL_NUMBER = 0,     /* its number in the order of the text, from 0, in decimal */
-    TL_OUTER_HTML = 1, /* its print */
-    TL_INNER_HTML = 2, /* the print of what is inside; of a text or a comment its own */
-    TL_INNER_TEXT = 3, /* the texts at or below it */
-    TL_ATTRIBUTE = 4   /* its value at the key `key`, or nothing where it has none */
-};
-
-/* What is asked of each node where the selector holds, in the order of the text, with a byte 0 after each. A node that lacks the value
- * gives nothing, and no byte 0 either. `key` is read with TL_ATTRIBUTE alone, but has to be UTF-8 always; its length may be 0. */
-tl_status tl_select(const uint8_t *selector, size_t selector_len,
-                    uint8_t field, const uint8_t *key, size_t key_len,
-                    const uint8_t *page, size_t page_len,
-                    uint8_t *out, size_t room, size_t *needed);
-
-/* What the policy for the text of a blog keeps of the page: docs/SAFE.md says what that is, and what it does not promise. */
-tl_status tl_sanitize(const uint8_t *page, size_t page_len,
-                      uint8_t *out, size_t room, size_t *needed);
-
-/* The same of a page that is read as browsers read it: end tags that are left out, names in upper case, values without quotes and
- * references mean there what they mean to a browser, and a `<` that begins no tag stays a text. For pages that people write, and for
- * what they type into a form. A page whose form has more than 4294967295 bytes isn't understood. */
+/* What the policy for the text of a blog keeps of the page: docs/SAFE.md says what that is, and what it does not promise. The page is
+ * read as browsers read it: end tags that are left out, names in upper case, values without quotes and references mean there what they
+ * mean to a browser, and a `<` that begins no tag stays a text. For pages that people write, and for what they type into a form. A page
+ * whose tree is out of proportion to it isn't understood; of one that is too large there is no memory. */
 tl_status tl_sanitize_html(const uint8_t *page, size_t page_len,
                            uint8_t *out, size_t room, size_t *needed);
 
@@ -177,7 +145,12 @@ enum {
     TL_ACTIVE_SCHEME = 9,    /* links that begin so are programs or documents */
     TL_NO_SCHEME = 10,       /* links begin with a scheme and its `:`, or with `/`, `#`, `?` or `.` */
     TL_MALFORMED_PREFIX = 11, /* a prefix of names is a letter of a-z, and then letters and `-` */
-    TL_UNLISTED_MARK = 12    /* links are marked at `rel`, which is no listed key, or a link key */
+    TL_UNLISTED_MARK = 12,   /* links are marked at `rel`, which is no listed key, or a link key */
+    TL_NO_TABLE_BODY = 13,   /* `tbody`, `thead` or `tfoot` of this table is missing, so rows lose their texts */
+    TL_NO_ROW = 14,          /* `tr` of this table is missing, so rows lose their texts */
+    TL_NO_CELL = 15,         /* `td` or `th` of this table is missing, so cells lose their texts */
+    TL_NO_CAPTION = 16,      /* `caption` of this table is missing, so captions lose their texts */
+    TL_NO_TABLE = 17         /* `table` is missing, in which alone this tag may stand */
 };
 
 /* A reason in words. */
@@ -195,31 +168,24 @@ static inline const char *tl_reason_text(uint8_t reason) {
     case TL_NO_SCHEME: return "no scheme with its `:`, and no `/`, `#`, `?` or `.` stands first";
     case TL_MALFORMED_PREFIX: return "no prefix: it is a letter of a-z, and then letters and `-`";
     case TL_UNLISTED_MARK: return "links can't be marked at this key: it is no listed key, or a link key";
+    case TL_NO_TABLE_BODY: return "`tbody`, `thead` or `tfoot` of this table is missing, so rows lose their texts";
+    case TL_NO_ROW: return "`tr` of this table is missing, so rows lose their texts";
+    case TL_NO_CELL: return "`td` or `th` of this table is missing, so cells lose their texts";
+    case TL_NO_CAPTION: return "`caption` of this table is missing, so captions lose their texts";
+    case TL_NO_TABLE: return "`table` is missing, in which alone this tag may stand";
     default: return "no reason";
     }
 }
 
-/* What a policy of these lists keeps of the page, which is read as browsers read it. Lists that are no policy are refused, and `*cause`
- * says why; else it is 0. A list that is no UTF-8, and another number of a policy, are not understood. */
+/* What a policy of these lists keeps of the page, which is read as above. Lists that are no policy are refused, and `*cause` says why;
+ * else it is 0. A list that is no UTF-8, and another number of a policy, are not understood. */
 tl_status tl_sanitize_html_with(const tl_lists *lists, const uint8_t *page, size_t page_len,
                                 uint8_t *out, size_t room, size_t *needed, uint8_t *cause);
 
 /* The first word for which these lists are no policy: by the order of tags, keys, link prefixes and the prefix of names, and of the
- * words in each; then `rel` where links can't be marked. `*cause` says why, and in which list the word stands. Lists that are a policy
- * have no such word: that is refused, and `*cause` is 0. */
+ * words in each; then `rel` where links can't be marked; then `table` or a part of a table, where one lacks the other. `*cause` says
+ * why, and in which list the word stands. Lists that are a policy have no such word: that is refused, and `*cause` is 0. */
 tl_status tl_refused_word(const tl_lists *lists, uint8_t *out, size_t room, size_t *needed, uint8_t *cause);
-
-/* What stands in a document of tl_parse_html is written for markup. These read it back: the characters that a text says (`&lt;` is
- * `<`), those that a value says, and the name that a name or a key was written of (`+40click` is `@click`). The last writes a name
- * so, to ask for its key: in lower case, and coded. They take any bytes; of what stands in such a document they make UTF-8. */
-tl_status tl_decode_text(const uint8_t *text, size_t text_len,
-                         uint8_t *out, size_t room, size_t *needed);
-tl_status tl_decode_value(const uint8_t *value, size_t value_len,
-                          uint8_t *out, size_t room, size_t *needed);
-tl_status tl_decode_name(const uint8_t *name, size_t name_len,
-                         uint8_t *out, size_t room, size_t *needed);
-tl_status tl_code_name(const uint8_t *name, size_t name_len,
-                       uint8_t *out, size_t room, size_t *needed);
 
 /* The version, as "0.1.0". It takes no memory. */
 tl_status tl_version(uint8_t *out, size_t room, size_t *needed);
@@ -242,25 +208,33 @@ typedef struct {
 
 #define TL_NO_DOCUMENT {NULL}
 
-/* Reads a copy of the page into `document`, and gives back what it held before. With a status but
- * TL_DONE it holds that still. */
-tl_status tl_parse(const uint8_t *page, size_t page_len, tl_document *document);
-
-/* The same of a page that is read as browsers read it, by way of its form: tags are ended, names are in lower case and values in
- * double quotes, and what the document holds is that form. In it texts and values are escaped (`&amp;`), and a name is coded that has
- * bytes which the grammar of `tl` doesn't let stand: `@click` is `+40click`. A page whose form has more than 4294967295 bytes isn't
- * understood. */
+/* Reads a copy of the page into `document`, and gives back what that held before. With a status but TL_DONE it holds that still.
+ *
+ * What is held is the tree that a browser builds of the page (the HTML standard's tree construction, with scripting off): an `html`, a
+ * `head` and a `body` stand in it also where the page has no tag of theirs, and what is misnested stands where browsers put it. Texts
+ * and values are the characters that they say (`&lt;` is `<`), names of HTML elements and their keys are in lower case. A byte order
+ * mark is no part of it.
+ *
+ * Isn't understood: a page that is no UTF-8, one of more than 4294967295 bytes, and one whose tree is out of proportion to it: in which
+ * more than four elements for each of its tags, comments and texts, and 65536 beside, are put in or opened again that no start tag
+ * stands for. */
 tl_status tl_parse_html(const uint8_t *page, size_t page_len, tl_document *document);
 
 /* Gives a document's memory back, and leaves TL_NO_DOCUMENT there. On TL_NO_DOCUMENT, so when called again, it does nothing. */
 void tl_free(tl_document *document);
 
+/* How many nodes there are: their numbers are those below it. Without a document 0. It takes no memory. */
+uint32_t tl_node_count(tl_document *document);
+
+/* 1 where the document is in quirks mode, as without a doctype: then classes and ids of selectors hold in any case. Else, and without a
+ * document, 0. It takes no memory. */
+uint8_t tl_is_quirks(tl_document *document);
+
+/* The whole page as markup, as the HTML standard serializes its tree. */
+tl_status tl_document_html(tl_document *document, uint8_t *out, size_t room, size_t *needed);
+
 /* What stands where there is no node. */
 #define TL_NO_NODE UINT32_MAX
-
-/* The numbers of the nodes where the selector holds, in the order of the text. */
-tl_status tl_find(tl_document *document, const uint8_t *selector, size_t selector_len,
-                  uint32_t *numbers, size_t room, size_t *needed);
 
 /* What is wrong with a selector of CSS. */
 enum {
@@ -312,9 +286,9 @@ static inline const char *tl_cause_text(uint8_t cause) {
     }
 }
 
-/* The numbers of the tags where a selector of CSS holds (docs/COMMANDS.md says which are read), in the order of the text. Names and
- * values are compared decoded, so `[\@click]` and `[href="?a=1&b=2"]` find what they name in a document of tl_parse_html. Where the
- * bytes are no selector, which is refused, `*place` is the first byte that is wrong and `*cause` says why; else both are 0. */
+/* The numbers of the elements where a selector of CSS holds (docs/COMMANDS.md says which are read), rising, without those in the
+ * contents of a `template`. `:scope` is the root of the document. Where the bytes are no selector, which is refused, `*place` is the
+ * first byte that is wrong and `*cause` says why; else both are 0. */
 tl_status tl_select_css(tl_document *document, const uint8_t *selector, size_t selector_len,
                         uint32_t *numbers, size_t room, size_t *needed, size_t *place, uint8_t *cause);
 
@@ -322,18 +296,25 @@ tl_status tl_select_css(tl_document *document, const uint8_t *selector, size_t s
 tl_status tl_first_css(tl_document *document, const uint8_t *selector, size_t selector_len,
                        uint32_t *number, size_t *place, uint8_t *cause);
 
-/* The same of the tags below a node: the selector is asked of the whole document, so it may name what stands around the node, which is
- * itself none of them. Where there is no such node that is refused. */
+/* The same of the elements below a node, as `querySelectorAll` of an element has it: the selector is asked of the whole document, so it
+ * may name what stands around the node, which is itself none of them, and `:scope` is the node. A selector may begin with a combinator:
+ * `> li` is `:scope > li`. What `+ li` and `~ li` lead to is not below the node, so they find nothing. Of a node in the contents of a
+ * `template`, and of contents themselves, what stands in them is found. Where there is no such node that is refused. */
 tl_status tl_node_select_css(tl_document *document, uint32_t node, const uint8_t *selector, size_t selector_len,
                              uint32_t *numbers, size_t room, size_t *needed, size_t *place, uint8_t *cause);
 tl_status tl_node_first_css(tl_document *document, uint32_t node, const uint8_t *selector, size_t selector_len,
                             uint32_t *number, size_t *place, uint8_t *cause);
 
-/* Whether a selector of CSS holds at a node: `*matches` is 1 where it does, and else 0, as at each text and comment. Where there is no
- * such node that is refused. A selector of a name, ids, classes and keys (`li.a[href]`) is asked of the node alone, any other of the
- * whole document: who asks that of many nodes asks tl_select_css once. */
+/* Whether a selector of CSS holds at a node: `*matches` is 1 where it does, and else 0, as at each node that is no element. `:scope` is
+ * the node. Where there is no such node that is refused. A selector of a name, ids, classes and keys (`li.a[href]`) is asked of the node
+ * alone, any other of the whole document: who asks that of many nodes asks tl_select_css once. */
 tl_status tl_node_matches_css(tl_document *document, uint32_t node, const uint8_t *selector, size_t selector_len,
                               uint8_t *matches, size_t *place, uint8_t *cause);
+
+/* Of a node and the elements that it stands in the innermost one where a selector of CSS holds. `:scope` is the node. Where it holds at
+ * none, and where there is no such node, that is refused with no cause, and `*number` is TL_NO_NODE. */
+tl_status tl_node_closest_css(tl_document *document, uint32_t node, const uint8_t *selector, size_t selector_len,
+                              uint32_t *number, size_t *place, uint8_t *cause);
 
 /* What is done with the tags where a selector holds. */
 enum {
@@ -398,58 +379,62 @@ tl_status tl_edit_css(uint8_t edit, uint8_t form, const uint8_t *selector, size_
                       const uint8_t *page, size_t page_len,
                       uint8_t *out, size_t room, size_t *needed, size_t *place, uint8_t *cause);
 
-/* Where a node stands: its parent, and the sibling behind it; TL_NO_NODE where there is none. */
-typedef struct {
-    uint32_t parent;
-    uint32_t next;
-} tl_node_links;
-
-/* The links of each node in the order of their numbers, of those at the top too: as many as the document has nodes. All come at once,
- * in a time linear in the document. */
-tl_status tl_links(tl_document *document, tl_node_links *links, size_t room, size_t *needed);
-
 /* Of a node. Where there is no such node, all that answer a status are refused. */
 
 /* What a node is. */
 enum {
-    TL_NONE = 0, /* there is no such node */
-    TL_TAG = 1,
+    TL_NONE = 0,    /* there is no such node */
+    TL_ELEMENT = 1,
     TL_TEXT = 2,
-    TL_COMMENT = 3
+    TL_COMMENT = 3,
+    TL_DOCTYPE = 4,
+    TL_CONTENTS = 5 /* the contents of a `template`: the one child of that element, in which stands what is written in it */
 };
 
 /* It takes no memory. */
 uint8_t tl_node_kind(tl_document *document, uint32_t node);
 
-/* The number of its first child; TL_NO_NODE where it has none. It takes no memory. */
-uint32_t tl_node_child(tl_document *document, uint32_t node);
-
-/* What stands at a key. */
+/* The namespace of an element. */
 enum {
-    TL_NO_KEY = 0,    /* there is no such key, or no such node */
-    TL_KEY_ALONE = 1, /* the key has no value, as `hidden`; tl_parse_html gives each key one, here the empty one */
-    TL_VALUE = 2
+    TL_NO_NAMESPACE = 0, /* it is no element, or there is no such node */
+    TL_HTML = 1,
+    TL_SVG = 2,
+    TL_MATHML = 3
 };
 
 /* It takes no memory. */
-uint8_t tl_node_key(tl_document *document, uint32_t node, const uint8_t *key, size_t key_len);
+uint8_t tl_node_namespace(tl_document *document, uint32_t node);
 
-/* The name of a tag. It is refused where the node is none. It takes no memory. */
+/* Where a node stands: the node that it stands in, the first of those that stand in it, and those behind it and before it in what it
+ * stands in, or at the top. TL_NO_NODE where there is none, and where there is no such node. They take no memory, and all but
+ * tl_node_previous_sibling the same time for each node; that takes a time linear in how deep the node before it is. */
+uint32_t tl_node_parent(tl_document *document, uint32_t node);
+uint32_t tl_node_first_child(tl_document *document, uint32_t node);
+uint32_t tl_node_next_sibling(tl_document *document, uint32_t node);
+uint32_t tl_node_previous_sibling(tl_document *document, uint32_t node);
+
+/* The number behind the last node below it: what is below it are the numbers from node + 1 up to this one, without it. TL_NO_NODE where
+ * there is no such node. It takes no memory. */
+uint32_t tl_node_end(tl_document *document, uint32_t node);
+
+/* The bytes of the page that a node comes from: from `*start` up to `*end`, without it. Of an element that is its start tag, of a comment
+ * and of a doctype all of it. Of a text it is what stands between two tags, comments or doctypes, where the text begins. An element that
+ * no tag of the page stands for (a `tbody` that browsers put in) and the contents of a `template` come from none: that is refused, and
+ * both are 0. It takes no memory. */
+tl_status tl_node_source(tl_document *document, uint32_t node, size_t *start, size_t *end);
+
+/* The name of an element: of HTML in lower case. It is refused where the node is none. It takes no memory. */
 tl_status tl_node_name(tl_document *document, uint32_t node, uint8_t *out, size_t room, size_t *needed);
 
-/* Its keys, with and without values, in the order of its print, with a byte 0 after each. All come at once: keys that are asked one by
- * one take square time on a tag of many. */
-tl_status tl_node_keys(tl_document *document, uint32_t node, uint8_t *out, size_t room, size_t *needed);
-
-/* Its keys and values in that order: of each how many bytes the key and the value have, in 8 bytes with the lowest first; TL_KEY_ALONE or
- * TL_VALUE in one; and the key and the value. `tl_next_pair` reads them. That takes a time linear in what is written. */
+/* Its keys and values in the order of its tag: of each how many bytes the key and the value have, in 8 bytes with the lowest first; and
+ * the key and the value. A key is as it is serialized (`xlink:href` in a `svg`), and each has a value, `hidden` the empty one. A node
+ * that is no element has none. `tl_next_pair` reads them. That takes a time linear in what is written. */
 tl_status tl_node_attributes(tl_document *document, uint32_t node, uint8_t *out, size_t room, size_t *needed);
 
 /* A key and its value, where they stand in the answer. */
 typedef struct {
     const uint8_t *key, *value;
     size_t key_len, value_len;
-    uint8_t standing; /* TL_KEY_ALONE, and then the value has no byte, or TL_VALUE */
 } tl_pair;
 
 /* Reads the pair at a place of an answer of `tl_node_attributes` and moves the place behind it; false at the end:
@@ -462,22 +447,24 @@ static inline bool tl_next_pair(const uint8_t **at, const uint8_t *end, tl_pair 
         pair->key_len = pair->key_len << 8 | head[place];
         pair->value_len = pair->value_len << 8 | head[place + 8];
     }
-    pair->standing = head[16];
-    pair->key = head + 17;
+    pair->key = head + 16;
     pair->value = pair->key + pair->key_len;
     *at = pair->value + pair->value_len;
     return true;
 }
 
-/* It as markup, and what is inside; the inside of a text or a comment is its own markup. */
-tl_status tl_node_html(tl_document *document, uint32_t node, uint8_t *out, size_t room, size_t *needed);
-tl_status tl_node_inner_html(tl_document *document, uint32_t node, uint8_t *out, size_t room, size_t *needed);
-
-/* The value of a node at a key. It is refused where the node has no such key, or the key no value. It takes no memory. */
+/* The value of a node at a key, which is compared as keys are serialized: `href` of an `a`, `xlink:href` of a `use` in a `svg`. Keys of
+ * HTML elements are in lower case. It is refused where the node has no such key. It takes no memory. */
 tl_status tl_attribute(tl_document *document, uint32_t node, const uint8_t *key, size_t key_len,
                        uint8_t *out, size_t room, size_t *needed);
 
-/* The texts at or below a node, in order, without comments. */
+/* A node as markup, and what is inside of it, as the HTML standard serializes them (`outerHTML`, `innerHTML`). The inside of a `template`
+ * is that of its contents; nothing is inside of a text, a comment or a doctype. */
+tl_status tl_node_outer_html(tl_document *document, uint32_t node, uint8_t *out, size_t room, size_t *needed);
+tl_status tl_node_inner_html(tl_document *document, uint32_t node, uint8_t *out, size_t room, size_t *needed);
+
+/* What a node says (`textContent`): a text and a comment what they say, any other node what the texts below it say, one after the other,
+ * without those in the contents of a `template` below it. A doctype says nothing. */
 tl_status tl_node_text(tl_document *document, uint32_t node, uint8_t *out, size_t room, size_t *needed);
 
 #ifdef __cplusplus

@@ -1,4 +1,4 @@
-/* Calls each function of tl.h for each status that it can answer, and exits with 1 and a line on standard error where one answers
+/* Calls each function of tl.h that takes a page for each status that it can answer, and exits with 1 and a line on standard error where one answers
  * otherwise. It is linked with --wrap=malloc,--wrap=realloc,--wrap=free, so that requests of the library for memory go through here.
  */
 #include "tl.h"
@@ -84,68 +84,6 @@ static int has_left(tl_status status, tl_status wanted, size_t count) {
         } \
         LEAVES(TL_OUT_OF_MEMORY, 0, status); \
     }
-
-static void of_print(void) {
-    PUTS("<p a>x</p>", tl_print(TEXT("<p a>x"), OUT));
-    PUTS("", tl_print(TEXT(""), OUT));
-    PUTS("", tl_print(TEXT(""), ROOM(0)));
-    PUTS("<p a>x</p>", tl_print(TEXT("<p a>x"), ROOM(10)));
-    PUTS("a\0b", tl_print(TEXT("a\0b"), OUT));
-    LEAVES(TL_NO_ROOM, 10, tl_print(TEXT("<p a>x"), ROOM(9)));
-    LEAVES(TL_NO_ROOM, 10, tl_print(TEXT("<p a>x"), ROOM(0)));
-    LEAVES(TL_NOT_UNDERSTOOD, 0, tl_print(TEXT("\xff"), OUT));
-    RUNS_OUT("<p a=\"b\">x</p>", tl_print(TEXT("<p a=b>x"), OUT));
-}
-
-static void of_text(void) {
-    PUTS("abc", tl_text(TEXT("a<p>b<br>c</p><!-- d -->"), OUT));
-    LEAVES(TL_NO_ROOM, 3, tl_text(TEXT("abc"), ROOM(2)));
-    LEAVES(TL_NOT_UNDERSTOOD, 0, tl_text(TEXT("\xff"), OUT));
-    RUNS_OUT("ab", tl_text(TEXT("a<p>b"), OUT));
-}
-
-static void of_edit(void) {
-    PUTS("<a href=\"/x\">y</a>", tl_edit(TEXT("set 0 href /x"), TEXT("<a>y</a>"), OUT));
-    PUTS("<a></a>", tl_edit(TEXT(""), TEXT("<a>"), OUT));
-    LEAVES(TL_NO_ROOM, 7, tl_edit(TEXT(""), TEXT("<a>"), ROOM(6)));
-    LEAVES(TL_REFUSED, 0, tl_edit(TEXT("push 5 0"), TEXT("<a></a>"), OUT));
-    LEAVES(TL_REFUSED, 0, tl_edit(TEXT("push 0 0"), TEXT("<a></a>"), OUT));
-    LEAVES(TL_NOT_UNDERSTOOD, 0, tl_edit(TEXT("push 0"), TEXT("<a></a>"), OUT));
-    LEAVES(TL_NOT_UNDERSTOOD, 0, tl_edit(TEXT("\xff"), TEXT("<a></a>"), OUT));
-    LEAVES(TL_NOT_UNDERSTOOD, 0, tl_edit(TEXT(""), TEXT("\xff"), OUT));
-    PUTS("", tl_edit(TEXT("\n\n"), TEXT(""), OUT));
-    RUNS_OUT("<a b=\"c\"></a>", tl_edit(TEXT("set 0 b c"), TEXT("<a>"), OUT));
-}
-
-#define NO_KEY TEXT("")
-#define PAGE TEXT("<p id=a>x<b>y</b></p><p>z")
-
-static void of_select(void) {
-    PUTS("0\0" "4\0", tl_select(TEXT("p"), TL_NUMBER, NO_KEY, PAGE, OUT));
-    PUTS("<p id=\"a\">x<b>y</b></p>\0<p>z</p>\0", tl_select(TEXT("p"), TL_OUTER_HTML, NO_KEY, PAGE, OUT));
-    PUTS("x<b>y</b>\0z\0", tl_select(TEXT("p"), TL_INNER_HTML, NO_KEY, PAGE, OUT));
-    PUTS("xy\0z\0", tl_select(TEXT("p"), TL_INNER_TEXT, NO_KEY, PAGE, OUT));
-    PUTS("a\0", tl_select(TEXT("p"), TL_ATTRIBUTE, TEXT("id"), PAGE, OUT));
-    PUTS("", tl_select(TEXT("i"), TL_INNER_TEXT, NO_KEY, PAGE, OUT));
-    PUTS("", tl_select(TEXT("i"), TL_INNER_TEXT, NO_KEY, TEXT(""), OUT));
-    PUTS("\0\0", tl_select(TEXT("br"), TL_INNER_TEXT, NO_KEY, TEXT("<br><br>"), OUT));
-    PUTS("x\0", tl_select(TEXT("a"), TL_ATTRIBUTE, TEXT("b"), TEXT("<a b><a><a b=x>"), OUT));
-    LEAVES(TL_NO_ROOM, 2, tl_select(TEXT("b"), TL_INNER_TEXT, NO_KEY, PAGE, ROOM(1)));
-    LEAVES(TL_REFUSED, 0, tl_select(TEXT(",p"), TL_INNER_TEXT, NO_KEY, PAGE, OUT));
-    LEAVES(TL_NOT_UNDERSTOOD, 0, tl_select(TEXT("p"), 5, NO_KEY, PAGE, OUT));
-    LEAVES(TL_NOT_UNDERSTOOD, 0, tl_select(TEXT("\xff"), TL_INNER_TEXT, NO_KEY, PAGE, OUT));
-    LEAVES(TL_NOT_UNDERSTOOD, 0, tl_select(TEXT("p"), TL_ATTRIBUTE, TEXT("\xff"), PAGE, OUT));
-    LEAVES(TL_NOT_UNDERSTOOD, 0, tl_select(TEXT("p"), TL_INNER_TEXT, NO_KEY, TEXT("\xff"), OUT));
-    RUNS_OUT("y\0", tl_select(TEXT("p b"), TL_INNER_TEXT, NO_KEY, PAGE, OUT));
-}
-
-static void of_sanitize(void) {
-    PUTS("<p>x</p>", tl_sanitize(TEXT("<p onclick=f()>x<script>y</script></p>"), OUT));
-    LEAVES(TL_NO_ROOM, 8, tl_sanitize(TEXT("<p>x"), ROOM(7)));
-    LEAVES(TL_NOT_UNDERSTOOD, 0, tl_sanitize(TEXT("\xff"), OUT));
-    PUTS("", tl_sanitize(TEXT(""), OUT));
-    RUNS_OUT("<p>x</p>", tl_sanitize(TEXT("<p>x"), OUT));
-}
 
 static void of_sanitize_html(void) {
     PUTS("I &lt;3 you", tl_sanitize_html(TEXT("I <3 you"), OUT));
@@ -313,22 +251,6 @@ static void of_elements(void) {
 #undef EDIT
 }
 
-static void of_decode(void) {
-    PUTS("a<b &", tl_decode_text(TEXT("a&lt;b &amp;"), OUT));
-    PUTS("a\xc2\xa0" "b", tl_decode_text(TEXT("a&nbsp;b"), OUT));
-    PUTS("?a=1&b=2", tl_decode_value(TEXT("?a=1&amp;b=2"), OUT));
-    PUTS("&copy=1", tl_decode_value(TEXT("&copy=1"), OUT));
-    PUTS("\xc2\xa9=1", tl_decode_text(TEXT("&copy=1"), OUT));
-    PUTS("@click", tl_decode_name(TEXT("+40click"), OUT));
-    PUTS("+40click", tl_code_name(TEXT("@Click"), OUT));
-    PUTS("href", tl_code_name(TEXT("HREF"), OUT));
-    LEAVES(TL_NO_ROOM, 3, tl_decode_text(TEXT("a&lt;b"), ROOM(2)));
-    RUNS_OUT("a<b", tl_decode_text(TEXT("a&lt;b"), OUT));
-    RUNS_OUT("a&b", tl_decode_value(TEXT("a&amp;b"), OUT));
-    RUNS_OUT("@a", tl_decode_name(TEXT("+40a"), OUT));
-    RUNS_OUT("+40a", tl_code_name(TEXT("@a"), OUT));
-}
-
 static void of_words(void) {
     CHECK(strcmp(TL_VERSION, VERSION) == 0);
     CHECK(strcmp(tl_status_text(TL_NO_ROOM), "no room") == 0);
@@ -350,14 +272,6 @@ static void of_version(void) {
 
 /* A call that makes something of a page alone. */
 typedef tl_status page_call(const uint8_t *page, size_t page_len, uint8_t *out, size_t room, size_t *needed);
-
-static tl_status texts_of_b(const uint8_t *page, size_t page_len, uint8_t *block, size_t room, size_t *count) {
-    return tl_select(TEXT("b"), TL_INNER_TEXT, NO_KEY, page, page_len, block, room, count);
-}
-
-static tl_status steps_on_page(const uint8_t *page, size_t page_len, uint8_t *block, size_t room, size_t *count) {
-    return tl_edit(page, page_len, TEXT("<a>"), block, room, count);
-}
 
 /* What a call makes of a page, in a block of its own: first with as much room as the page has bytes, then with what is needed. */
 static uint8_t *made(page_call *call, const uint8_t *page, size_t len, size_t *count) {
@@ -386,37 +300,29 @@ static int makes(page_call *call, size_t times, const uint8_t *text, size_t len,
     return is && held == 0;
 }
 
-/* Pages and answers of 10 MB, tags deep in one another, many steps: none of them wants more memory than there is. */
+static tl_status keyed(const uint8_t *page, size_t page_len, uint8_t *block, size_t room, size_t *count) {
+    return tl_patch_css(TL_SET, TEXT("b"), TEXT("a"), TEXT("c"), page, page_len, block, room, count, &place, &cause);
+}
+
+/* Pages and answers of 10 MB, and tags deep in one another: none of them wants more memory than there is. */
 static void of_large(void) {
-    CHECK(makes(tl_print, 1000000, TEXT("<b>xyz</b>"), 1000000, TEXT("<b>xyz</b>")));
-    CHECK(makes(tl_sanitize, 1000000, TEXT("<b>xyz</b>"), 1000000, TEXT("<b>xyz</b>")));
     CHECK(makes(tl_sanitize_html, 1000000, TEXT("<B>xyz</B>"), 1000000, TEXT("<b>xyz</b>")));
-    CHECK(makes(tl_text, 1000000, TEXT("<b>xyz</b>"), 1000000, TEXT("xyz")));
-    CHECK(makes(texts_of_b, 2000000, TEXT("<b>xyz</b>"), 2000000, TEXT("xyz\0")));
-    CHECK(makes(texts_of_b, 1000000, TEXT("<br>"), 0, TEXT("")));
-    CHECK(makes(tl_text, 10000, TEXT("<b>x"), 10000, TEXT("x")));
-    CHECK(makes(tl_sanitize, 10000, TEXT("<x-y>z"), 10000, TEXT("z")));
-    CHECK(makes(steps_on_page, 100000, TEXT("flag 0 b\n"), 1, TEXT("<a b></a>")));
+    CHECK(makes(tl_sanitize_html, 10000, TEXT("<x-y>z"), 10000, TEXT("z")));
+    CHECK(makes(keyed, 1000000, TEXT("<B>xyz</B>"), 1000000, TEXT("<B a=\"c\">xyz</B>")));
 }
 
 int main(void) {
     memset(out, '.', sizeof out);
-    of_print();
-    of_text();
-    of_edit();
-    of_select();
-    of_sanitize();
     of_sanitize_html();
     of_policies();
     of_lists();
     of_patch();
     of_elements();
-    of_decode();
     of_words();
     of_version();
     of_large();
     size_t count;
-    uint8_t *block = made(tl_print, TEXT("<p>x"), &count);
+    uint8_t *block = made(tl_sanitize_html, TEXT("<p>x"), &count);
     CHECK(count == 8 && memcmp(block, "<p>x</p>", 8) == 0);
     free(block);
     CHECK(held == 0);

@@ -1,11 +1,12 @@
-/* Calls each function of tl_documents.h for each status. Where one answers otherwise it says so on standard error, and exits with 1. */
-#include "tl_documents.h"
+/* Calls each function of tl.h that takes a document, for each status. Where one answers otherwise it says so on standard error, and
+ * exits with 1. */
+#include "tl.h"
 
 #include <stdio.h>
 #include <stdlib.h>
 #include <string.h>
 
-static uint8_t out[64];
+static uint8_t out[128];
 static uint32_t numbers[8];
 static size_t needed;
 
@@ -66,19 +67,30 @@ static int left(tl_status status, tl_status wanted, size_t count) {
     return is;
 }
 
-/* Whether the attributes of a node are these: each key with `=` and its value, or alone, and a space after it. */
+/* Whether the attributes of a node are these: each key with `=` and its value, and a space after it. */
 static int has_attributes(tl_document *document, uint32_t node, const char *wanted) {
     uint8_t pairs[256];
     char said[256] = "";
     size_t count, at = 0;
     tl_pair pair;
     if (tl_node_attributes(document, node, pairs, sizeof pairs, &count) != TL_DONE) return 0;
-    for (const uint8_t *here = pairs; tl_next_pair(&here, pairs + count, &pair);) {
-        at += (size_t)sprintf(said + at, "%.*s", (int)pair.key_len, (const char *)pair.key);
-        if (pair.standing == TL_VALUE) at += (size_t)sprintf(said + at, "=%.*s", (int)pair.value_len, (const char *)pair.value);
-        at += (size_t)sprintf(said + at, " ");
-    }
+    for (const uint8_t *here = pairs; tl_next_pair(&here, pairs + count, &pair);)
+        at += (size_t)sprintf(said + at, "%.*s=%.*s ", (int)pair.key_len, (const char *)pair.key, (int)pair.value_len,
+                              (const char *)pair.value);
     return strcmp(said, wanted) == 0;
+}
+
+/* Whether the bytes of a page that a node comes from are these. */
+static int comes_from(tl_document *document, uint32_t node, const char *page, const char *wanted) {
+    size_t start = 99, end = 99;
+    if (tl_node_source(document, node, &start, &end) != TL_DONE) return 0;
+    return end - start == strlen(wanted) && memcmp(page + start, wanted, end - start) == 0;
+}
+
+/* Whether a node comes from no bytes of the page. */
+static int comes_from_none(tl_document *document, uint32_t node) {
+    size_t start = 99, end = 99;
+    return tl_node_source(document, node, &start, &end) == TL_REFUSED && start == 0 && end == 0;
 }
 
 #define PUTS(call, bytes) CHECK(put((call), bytes, sizeof(bytes) - 1))
@@ -88,34 +100,6 @@ static int has_attributes(tl_document *document, uint32_t node, const char *want
         CHECK(found((call), wanted, sizeof wanted / sizeof *wanted - 1)); \
     } while (0)
 #define LEAVES(call, status, count) CHECK(left((call), (status), (count)))
-
-/* 0 is the nav, 1 and 3 are links, 2 and 4 their texts, 5 a paragraph with a text, a comment and a text in a tag: 6, 7, 9 in 8. */
-static const char page[] = "<nav><a href=\"/x\" hidden>y</a><a>z</a></nav><p>one<!-- no --><b>two</b></p>";
-
-static void asked(tl_document *document) {
-    FINDS(tl_find(document, BYTES("a"), NUMBERS), 1, 3);
-    FINDS(tl_find(document, BYTES("nav > a"), NUMBERS), 1, 3);
-    FINDS(tl_find(document, BYTES("a[href]"), NUMBERS), 1);
-    CHECK(found(tl_find(document, BYTES("i"), NUMBERS), NULL, 0));
-    LEAVES(tl_find(document, BYTES("a"), numbers, 1, &needed), TL_NO_ROOM, 2);
-    LEAVES(tl_find(document, BYTES("a"), numbers, 0, &needed), TL_NO_ROOM, 2);
-    LEAVES(tl_find(document, BYTES(",a"), NUMBERS), TL_REFUSED, 0);
-    LEAVES(tl_find(document, BYTES("\xff"), NUMBERS), TL_NOT_UNDERSTOOD, 0);
-
-    PUTS(tl_attribute(document, 1, BYTES("href"), OUT), "/x");
-    LEAVES(tl_attribute(document, 1, BYTES("href"), out, 1, &needed), TL_NO_ROOM, 2);
-    LEAVES(tl_attribute(document, 1, BYTES("hidden"), OUT), TL_REFUSED, 0);
-    LEAVES(tl_attribute(document, 3, BYTES("href"), OUT), TL_REFUSED, 0);
-    LEAVES(tl_attribute(document, 2, BYTES("href"), OUT), TL_REFUSED, 0);
-    LEAVES(tl_attribute(document, 1000, BYTES("href"), OUT), TL_REFUSED, 0);
-
-    PUTS(tl_node_text(document, 0, OUT), "yz");
-    PUTS(tl_node_text(document, 2, OUT), "y");
-    PUTS(tl_node_text(document, 5, OUT), "onetwo");
-    PUTS(tl_node_text(document, 7, OUT), "");
-    LEAVES(tl_node_text(document, 5, out, 5, &needed), TL_NO_ROOM, 6);
-    LEAVES(tl_node_text(document, 1000, OUT), TL_REFUSED, 0);
-}
 
 /* What stands at a selector of CSS, and whether place and cause are told. */
 #define WRONG(document, selector, at, why) \
@@ -148,6 +132,8 @@ static uint8_t is_met;
     SAYS(tl_first_css((document), BYTES(selector), &one, &place, &cause), wanted, one, number, at, why)
 #define FIRST_BELOW(document, node, selector, wanted, number, at, why) \
     SAYS(tl_node_first_css((document), (node), BYTES(selector), &one, &place, &cause), wanted, one, number, at, why)
+#define CLOSEST(document, node, selector, wanted, number, at, why) \
+    SAYS(tl_node_closest_css((document), (node), BYTES(selector), &one, &place, &cause), wanted, one, number, at, why)
 #define MATCHES(document, node, selector, wanted, number, at, why) \
     SAYS(tl_node_matches_css((document), (node), BYTES(selector), &is_met, &place, &cause), wanted, is_met, number, at, why)
 #define SELECTS_BELOW(document, node, selector, ...) \
@@ -155,6 +141,13 @@ static uint8_t is_met;
         size_t place = 99; \
         uint8_t cause = 99; \
         FINDS(tl_node_select_css((document), (node), BYTES(selector), NUMBERS, &place, &cause), __VA_ARGS__); \
+        CHECK(place == 0 && cause == TL_NO_CAUSE); \
+    } while (0)
+#define FINDS_NONE_BELOW(document, node, selector) \
+    do { \
+        size_t place = 99; \
+        uint8_t cause = 99; \
+        CHECK(found(tl_node_select_css((document), (node), BYTES(selector), NUMBERS, &place, &cause), NULL, 0)); \
         CHECK(place == 0 && cause == TL_NO_CAUSE); \
     } while (0)
 #define LEAVES_BELOW(document, node, selector, status, at, why) \
@@ -165,178 +158,258 @@ static uint8_t is_met;
         CHECK(place == (at) && cause == (why)); \
     } while (0)
 
-/* The same page as people write it: 0 is the nav, 1 and 3 are links, 2 and 4 their texts, 5 a paragraph with a text (6), a comment (7)
- * and a text in a tag (9 in 8). */
-static const char written[] = "<NAV><a href='?a=1&b=2' hidden @click=f()>y</a><A>z</A></NAV><p>one<!-- no --><b>two";
+/* As people write it. 0 is the html, 1 the head, 2 the body, 3 the nav, 4 and 6 are links, 5 and 7 their texts, 8 is a paragraph with a
+ * text (9), a comment (10) and a text (12) in a tag (11). */
+static const char page[] = "<NAV><a href='?a=1&amp;b=2' hidden @click=f()>y</a><A>z</A></NAV><p>one<!-- no --><b>two";
+#define NODES 13
 
 static void asked_of_nodes(tl_document *document) {
-    static const uint8_t kinds[] = {TL_TAG, TL_TAG, TL_TEXT, TL_TAG, TL_TEXT, TL_TAG, TL_TEXT, TL_COMMENT, TL_TAG, TL_TEXT, TL_NONE};
-    static const uint32_t children[] = {1, 2, TL_NO_NODE, 4, TL_NO_NODE, 6, TL_NO_NODE, TL_NO_NODE, 9, TL_NO_NODE, TL_NO_NODE};
-    static const tl_node_links wanted[] = {
-        {TL_NO_NODE, 5}, {0, 3}, {1, TL_NO_NODE}, {0, TL_NO_NODE}, {3, TL_NO_NODE},
-        {TL_NO_NODE, TL_NO_NODE}, {5, 7}, {5, 8}, {5, TL_NO_NODE}, {8, TL_NO_NODE},
-    };
-    for (uint32_t node = 0; node < 11; node++) {
+    static const uint8_t kinds[] = {TL_ELEMENT, TL_ELEMENT, TL_ELEMENT, TL_ELEMENT, TL_ELEMENT, TL_TEXT, TL_ELEMENT, TL_TEXT,
+                                    TL_ELEMENT, TL_TEXT, TL_COMMENT, TL_ELEMENT, TL_TEXT, TL_NONE};
+    static const uint32_t parents[] = {TL_NO_NODE, 0, 0, 2, 3, 4, 3, 6, 2, 8, 8, 8, 11, TL_NO_NODE};
+    static const uint32_t children[] = {1, TL_NO_NODE, 3, 4, 5, TL_NO_NODE, 7, TL_NO_NODE, 9, TL_NO_NODE, TL_NO_NODE, 12, TL_NO_NODE,
+                                        TL_NO_NODE};
+    static const uint32_t nexts[] = {TL_NO_NODE, 2, TL_NO_NODE, 8, 6, TL_NO_NODE, TL_NO_NODE, TL_NO_NODE, TL_NO_NODE, 10, 11, TL_NO_NODE,
+                                     TL_NO_NODE, TL_NO_NODE};
+    static const uint32_t befores[] = {TL_NO_NODE, TL_NO_NODE, 1, TL_NO_NODE, TL_NO_NODE, TL_NO_NODE, 4, TL_NO_NODE, 3, TL_NO_NODE, 9, 10,
+                                       TL_NO_NODE, TL_NO_NODE};
+    static const uint32_t ends[] = {13, 2, 13, 8, 6, 6, 8, 8, 13, 10, 11, 13, 13, TL_NO_NODE};
+    CHECK(tl_node_count(document) == NODES);
+    CHECK(tl_is_quirks(document) == 1);
+    for (uint32_t node = 0; node <= NODES; node++) {
         CHECK(tl_node_kind(document, node) == kinds[node]);
-        CHECK(tl_node_child(document, node) == children[node]);
+        CHECK(tl_node_namespace(document, node) == (kinds[node] == TL_ELEMENT ? TL_HTML : TL_NO_NAMESPACE));
+        CHECK(tl_node_parent(document, node) == parents[node]);
+        CHECK(tl_node_first_child(document, node) == children[node]);
+        CHECK(tl_node_next_sibling(document, node) == nexts[node]);
+        CHECK(tl_node_previous_sibling(document, node) == befores[node]);
+        CHECK(tl_node_end(document, node) == ends[node]);
     }
-    CHECK(tl_node_key(document, 1, BYTES("href")) == TL_VALUE);
-    /* In a form each key has a value. */
-    CHECK(tl_node_key(document, 1, BYTES("hidden")) == TL_VALUE);
-    CHECK(tl_node_key(document, 3, BYTES("hidden")) == TL_NO_KEY);
-    CHECK(tl_node_key(document, 2, BYTES("hidden")) == TL_NO_KEY);
-    CHECK(tl_node_key(document, 1000, BYTES("hidden")) == TL_NO_KEY);
-    PUTS(tl_node_name(document, 0, OUT), "nav");
-    LEAVES(tl_node_name(document, 0, out, 2, &needed), TL_NO_ROOM, 3);
-    LEAVES(tl_node_name(document, 2, OUT), TL_REFUSED, 0);
-    LEAVES(tl_node_name(document, 1000, OUT), TL_REFUSED, 0);
-    PUTS(tl_node_keys(document, 3, OUT), "");
-    PUTS(tl_node_keys(document, 2, OUT), "");
-    PUTS(tl_node_attributes(document, 3, OUT), "");
-    PUTS(tl_node_attributes(document, 2, OUT), "");
-    LEAVES(tl_node_attributes(document, 1000, OUT), TL_REFUSED, 0);
-    LEAVES(tl_node_keys(document, 1000, OUT), TL_REFUSED, 0);
-    PUTS(tl_node_html(document, 3, OUT), "<a>z</a>");
-    PUTS(tl_node_html(document, 7, OUT), "<!-- no -->");
-    LEAVES(tl_node_html(document, 3, out, 7, &needed), TL_NO_ROOM, 8);
-    LEAVES(tl_node_html(document, 1000, OUT), TL_REFUSED, 0);
-    PUTS(tl_node_inner_html(document, 5, OUT), "one<!-- no --><b>two</b>");
-    PUTS(tl_node_inner_html(document, 6, OUT), "one");
-    LEAVES(tl_node_inner_html(document, 1000, OUT), TL_REFUSED, 0);
+    CHECK(tl_node_parent(document, TL_NO_NODE) == TL_NO_NODE && tl_node_end(document, TL_NO_NODE) == TL_NO_NODE);
 
-    tl_node_links links[10];
-    CHECK(tl_links(document, links, 9, &needed) == TL_NO_ROOM && needed == 10);
-    CHECK(tl_links(document, links, 10, &needed) == TL_DONE && needed == 10);
-    for (size_t node = 0; node < 10; node++)
-        CHECK(links[node].parent == wanted[node].parent && links[node].next == wanted[node].next);
+    CHECK(comes_from_none(document, 0) && comes_from_none(document, 1) && comes_from_none(document, NODES));
+    CHECK(comes_from(document, 3, page, "<NAV>"));
+    CHECK(comes_from(document, 4, page, "<a href='?a=1&amp;b=2' hidden @click=f()>"));
+    CHECK(comes_from(document, 9, page, "one"));
+    CHECK(comes_from(document, 10, page, "<!-- no -->"));
+    CHECK(comes_from(document, 12, page, "two"));
+
+    PUTS(tl_node_name(document, 3, OUT), "nav");
+    LEAVES(tl_node_name(document, 3, out, 2, &needed), TL_NO_ROOM, 3);
+    LEAVES(tl_node_name(document, 5, OUT), TL_REFUSED, 0);
+    LEAVES(tl_node_name(document, NODES, OUT), TL_REFUSED, 0);
+
+    PUTS(tl_attribute(document, 4, BYTES("href"), OUT), "?a=1&b=2");
+    PUTS(tl_attribute(document, 4, BYTES("@click"), OUT), "f()");
+    PUTS(tl_attribute(document, 4, BYTES("hidden"), OUT), "");
+    LEAVES(tl_attribute(document, 4, BYTES("href"), out, 1, &needed), TL_NO_ROOM, 8);
+    LEAVES(tl_attribute(document, 4, BYTES("HREF"), OUT), TL_REFUSED, 0);
+    LEAVES(tl_attribute(document, 4, BYTES("hre"), OUT), TL_REFUSED, 0);
+    LEAVES(tl_attribute(document, 4, BYTES(""), OUT), TL_REFUSED, 0);
+    LEAVES(tl_attribute(document, 6, BYTES("href"), OUT), TL_REFUSED, 0);
+    LEAVES(tl_attribute(document, 5, BYTES("href"), OUT), TL_REFUSED, 0);
+    LEAVES(tl_attribute(document, NODES, BYTES("href"), OUT), TL_REFUSED, 0);
+
+    CHECK(has_attributes(document, 4, "href=?a=1&b=2 hidden= @click=f() "));
+    LEAVES(tl_node_attributes(document, 4, out, 10, &needed), TL_NO_ROOM, 3 * 16 + 4 + 8 + 6 + 6 + 3);
+    PUTS(tl_node_attributes(document, 6, OUT), "");
+    PUTS(tl_node_attributes(document, 5, OUT), "");
+    LEAVES(tl_node_attributes(document, NODES, OUT), TL_REFUSED, 0);
+
+    PUTS(tl_node_outer_html(document, 6, OUT), "<a>z</a>");
+    PUTS(tl_node_outer_html(document, 9, OUT), "one");
+    PUTS(tl_node_outer_html(document, 10, OUT), "<!-- no -->");
+    LEAVES(tl_node_outer_html(document, 6, out, 7, &needed), TL_NO_ROOM, 8);
+    LEAVES(tl_node_outer_html(document, NODES, OUT), TL_REFUSED, 0);
+    PUTS(tl_node_inner_html(document, 8, OUT), "one<!-- no --><b>two</b>");
+    PUTS(tl_node_inner_html(document, 9, OUT), "");
+    LEAVES(tl_node_inner_html(document, 8, out, 7, &needed), TL_NO_ROOM, 24);
+    LEAVES(tl_node_inner_html(document, NODES, OUT), TL_REFUSED, 0);
+    LEAVES(tl_document_html(document, out, 7, &needed), TL_NO_ROOM, 140);
+
+    PUTS(tl_node_text(document, 3, OUT), "yz");
+    PUTS(tl_node_text(document, 5, OUT), "y");
+    PUTS(tl_node_text(document, 8, OUT), "onetwo");
+    PUTS(tl_node_text(document, 10, OUT), " no ");
+    PUTS(tl_node_text(document, 1, OUT), "");
+    LEAVES(tl_node_text(document, 8, out, 5, &needed), TL_NO_ROOM, 6);
+    LEAVES(tl_node_text(document, NODES, OUT), TL_REFUSED, 0);
 }
 
-/* Of that page: what is found first, below a node, and at one. */
-static void asked_below(tl_document *document) {
-    FIRST(document, "a", TL_DONE, 1, 0, TL_NO_CAUSE);
-    FIRST(document, "A + a, b", TL_DONE, 3, 0, TL_NO_CAUSE);
+/* Of that page: what is found, first, below a node, from one outwards, and at one. */
+static void asked_by_selectors(tl_document *document) {
+    SELECTS(document, "a", 4, 6);
+    SELECTS(document, "A + a", 6);
+    SELECTS(document, "nav:has(a), b", 3, 11);
+    SELECTS(document, "[href='?a=1&b=2']", 4);
+    SELECTS(document, "[\\@click]", 4);
+    SELECTS(document, ":scope", 0);
+    WRONG(document, "p:hover", 2, TL_NO_PSEUDO_CLASS);
+    WRONG(document, "a,", 2, TL_NO_SELECTOR);
+    WRONG(document, "> a", 0, TL_NO_SELECTOR);
+    WRONG(document, "p:nth-child(9999999999)", 12, TL_LARGE_NUMBER);
+    size_t place = 99;
+    uint8_t cause = 99;
+    CHECK(found(tl_select_css(document, BYTES("i"), NUMBERS, &place, &cause), NULL, 0));
+    LEAVES(tl_select_css(document, BYTES("\xff"), NUMBERS, &place, &cause), TL_NOT_UNDERSTOOD, 0);
+    CHECK(place == 0 && cause == TL_NO_CAUSE);
+    LEAVES(tl_select_css(document, BYTES("a"), numbers, 1, &needed, &place, &cause), TL_NO_ROOM, 2);
+
+    FIRST(document, "a", TL_DONE, 4, 0, TL_NO_CAUSE);
+    FIRST(document, "A + a, b", TL_DONE, 6, 0, TL_NO_CAUSE);
     FIRST(document, "i", TL_REFUSED, TL_NO_NODE, 0, TL_NO_CAUSE);
     FIRST(document, "a[", TL_REFUSED, TL_NO_NODE, 2, TL_NO_NAME);
     FIRST(document, "\xff", TL_NOT_UNDERSTOOD, TL_NO_NODE, 0, TL_NO_CAUSE);
 
-    SELECTS_BELOW(document, 0, "a", 1, 3);
-    SELECTS_BELOW(document, 0, "nav > a:last-child", 3);
-    SELECTS_BELOW(document, 5, "*", 8);
-    SELECTS_BELOW(document, 5, "nav ~ p b", 8);
-    size_t place = 99;
-    uint8_t cause = 99;
-    CHECK(found(tl_node_select_css(document, 0, BYTES("nav, p, b"), NUMBERS, &place, &cause), NULL, 0));
-    CHECK(found(tl_node_select_css(document, 9, BYTES("*"), NUMBERS, &place, &cause), NULL, 0));
-    LEAVES(tl_node_select_css(document, 0, BYTES("a"), numbers, 1, &needed, &place, &cause), TL_NO_ROOM, 2);
-    LEAVES_BELOW(document, 10, "a", TL_REFUSED, 0, TL_NO_CAUSE);
-    LEAVES_BELOW(document, 0, "p:hover", TL_REFUSED, 2, TL_NO_PSEUDO_CLASS);
-    LEAVES_BELOW(document, 10, "p:hover", TL_REFUSED, 2, TL_NO_PSEUDO_CLASS);
-    LEAVES_BELOW(document, 0, "\xff", TL_NOT_UNDERSTOOD, 0, TL_NO_CAUSE);
-    FIRST_BELOW(document, 0, "a, b", TL_DONE, 1, 0, TL_NO_CAUSE);
-    FIRST_BELOW(document, 5, "a, b", TL_DONE, 8, 0, TL_NO_CAUSE);
-    FIRST_BELOW(document, 8, "a, b", TL_REFUSED, TL_NO_NODE, 0, TL_NO_CAUSE);
-    FIRST_BELOW(document, 10, "a, b", TL_REFUSED, TL_NO_NODE, 0, TL_NO_CAUSE);
-    FIRST_BELOW(document, 0, "a,", TL_REFUSED, TL_NO_NODE, 2, TL_NO_SELECTOR);
-    FIRST_BELOW(document, 0, "\xff", TL_NOT_UNDERSTOOD, TL_NO_NODE, 0, TL_NO_CAUSE);
+    SELECTS_BELOW(document, 3, "a", 4, 6);
+    SELECTS_BELOW(document, 3, "nav > a:last-child", 6);
+    SELECTS_BELOW(document, 8, "*", 11);
+    SELECTS_BELOW(document, 8, "nav ~ p b", 11);
+    SELECTS_BELOW(document, 2, "> p, > b", 8);
+    SELECTS_BELOW(document, 2, ":scope > *", 3, 8);
+    FINDS_NONE_BELOW(document, 3, "nav, p, b");
+    FINDS_NONE_BELOW(document, 3, "+ p");
+    FINDS_NONE_BELOW(document, 12, "*");
+    LEAVES(tl_node_select_css(document, 3, BYTES("a"), numbers, 1, &needed, &place, &cause), TL_NO_ROOM, 2);
+    LEAVES_BELOW(document, NODES, "a", TL_REFUSED, 0, TL_NO_CAUSE);
+    LEAVES_BELOW(document, 3, "> p:hover", TL_REFUSED, 4, TL_NO_PSEUDO_CLASS);
+    LEAVES_BELOW(document, NODES, "p:hover", TL_REFUSED, 2, TL_NO_PSEUDO_CLASS);
+    LEAVES_BELOW(document, 3, "\xff", TL_NOT_UNDERSTOOD, 0, TL_NO_CAUSE);
+    FIRST_BELOW(document, 3, "a, b", TL_DONE, 4, 0, TL_NO_CAUSE);
+    FIRST_BELOW(document, 2, "> b, > p", TL_DONE, 8, 0, TL_NO_CAUSE);
+    FIRST_BELOW(document, 11, "a, b", TL_REFUSED, TL_NO_NODE, 0, TL_NO_CAUSE);
+    FIRST_BELOW(document, NODES, "a, b", TL_REFUSED, TL_NO_NODE, 0, TL_NO_CAUSE);
+    FIRST_BELOW(document, 3, "a,", TL_REFUSED, TL_NO_NODE, 2, TL_NO_SELECTOR);
+    FIRST_BELOW(document, 3, "\xff", TL_NOT_UNDERSTOOD, TL_NO_NODE, 0, TL_NO_CAUSE);
 
-    MATCHES(document, 0, "nav", TL_DONE, 1, 0, TL_NO_CAUSE);
-    MATCHES(document, 1, "[href='?a=1&b=2']", TL_DONE, 1, 0, TL_NO_CAUSE);
-    MATCHES(document, 3, "nav > a + a", TL_DONE, 1, 0, TL_NO_CAUSE);
-    MATCHES(document, 1, "nav > a + a", TL_DONE, 0, 0, TL_NO_CAUSE);
-    MATCHES(document, 1, "p, b", TL_DONE, 0, 0, TL_NO_CAUSE);
-    MATCHES(document, 8, "p, b", TL_DONE, 1, 0, TL_NO_CAUSE);
-    MATCHES(document, 2, "*", TL_DONE, 0, 0, TL_NO_CAUSE);
-    MATCHES(document, 10, "*", TL_REFUSED, 0, 0, TL_NO_CAUSE);
-    MATCHES(document, 0, "nav[", TL_REFUSED, 0, 4, TL_NO_NAME);
-    MATCHES(document, 0, "\xff", TL_NOT_UNDERSTOOD, 0, 0, TL_NO_CAUSE);
+    CLOSEST(document, 12, "p, b", TL_DONE, 11, 0, TL_NO_CAUSE);
+    CLOSEST(document, 12, "p", TL_DONE, 8, 0, TL_NO_CAUSE);
+    CLOSEST(document, 4, "a", TL_DONE, 4, 0, TL_NO_CAUSE);
+    CLOSEST(document, 4, "nav:has(> :scope)", TL_DONE, 3, 0, TL_NO_CAUSE);
+    CLOSEST(document, 12, "nav", TL_REFUSED, TL_NO_NODE, 0, TL_NO_CAUSE);
+    CLOSEST(document, NODES, "p", TL_REFUSED, TL_NO_NODE, 0, TL_NO_CAUSE);
+    CLOSEST(document, 12, "> p", TL_REFUSED, TL_NO_NODE, 0, TL_NO_SELECTOR);
+    CLOSEST(document, 12, "\xff", TL_NOT_UNDERSTOOD, TL_NO_NODE, 0, TL_NO_CAUSE);
+
+    MATCHES(document, 3, "nav", TL_DONE, 1, 0, TL_NO_CAUSE);
+    MATCHES(document, 4, "[href='?a=1&b=2']", TL_DONE, 1, 0, TL_NO_CAUSE);
+    MATCHES(document, 6, "nav > a + a", TL_DONE, 1, 0, TL_NO_CAUSE);
+    MATCHES(document, 4, "nav > a + a", TL_DONE, 0, 0, TL_NO_CAUSE);
+    MATCHES(document, 4, "p, b", TL_DONE, 0, 0, TL_NO_CAUSE);
+    MATCHES(document, 4, "nav > :scope", TL_DONE, 1, 0, TL_NO_CAUSE);
+    MATCHES(document, 5, "*", TL_DONE, 0, 0, TL_NO_CAUSE);
+    MATCHES(document, NODES, "*", TL_REFUSED, 0, 0, TL_NO_CAUSE);
+    MATCHES(document, 3, "nav[", TL_REFUSED, 0, 4, TL_NO_NAME);
+    MATCHES(document, 3, "\xff", TL_NOT_UNDERSTOOD, 0, 0, TL_NO_CAUSE);
 }
 
-/* The calls with a page that is read as browsers read it. */
-static void of_html(void) {
+/* What is answered without a document. */
+static void asked_of_none(tl_document *document) {
+    CHECK(tl_node_count(document) == 0 && tl_is_quirks(document) == 0);
+    CHECK(tl_node_kind(document, 0) == TL_NONE && tl_node_namespace(document, 0) == TL_NO_NAMESPACE);
+    CHECK(tl_node_parent(document, 0) == TL_NO_NODE && tl_node_first_child(document, 0) == TL_NO_NODE);
+    CHECK(tl_node_next_sibling(document, 0) == TL_NO_NODE && tl_node_previous_sibling(document, 0) == TL_NO_NODE);
+    CHECK(tl_node_end(document, 0) == TL_NO_NODE && comes_from_none(document, 0));
+    LEAVES(tl_node_name(document, 0, OUT), TL_REFUSED, 0);
+    LEAVES(tl_attribute(document, 0, BYTES("href"), OUT), TL_REFUSED, 0);
+    LEAVES(tl_node_attributes(document, 0, OUT), TL_REFUSED, 0);
+    LEAVES(tl_node_outer_html(document, 0, OUT), TL_REFUSED, 0);
+    LEAVES(tl_node_inner_html(document, 0, OUT), TL_REFUSED, 0);
+    LEAVES(tl_document_html(document, OUT), TL_REFUSED, 0);
+    LEAVES(tl_node_text(document, 0, OUT), TL_REFUSED, 0);
+    FIRST(document, "a", TL_REFUSED, TL_NO_NODE, 0, TL_NO_CAUSE);
+    CLOSEST(document, 0, "a", TL_REFUSED, TL_NO_NODE, 0, TL_NO_CAUSE);
+    LEAVES_BELOW(document, 0, "a", TL_REFUSED, 0, TL_NO_CAUSE);
+    LEAVES_BELOW(document, 0, "a[", TL_REFUSED, 2, TL_NO_NAME);
+    FIRST_BELOW(document, 0, "a", TL_REFUSED, TL_NO_NODE, 0, TL_NO_CAUSE);
+    MATCHES(document, 0, "a", TL_REFUSED, 0, 0, TL_NO_CAUSE);
+    WRONG(document, "a[", 2, TL_NO_NAME);
+    WRONG(document, "a", 0, TL_NO_CAUSE);
+}
+
+/* A doctype (0), a template (4) with contents (5) in which an item stands (6), a svg (8) with a use (9), a formula (10) with an mi (11),
+ * and a table (12) whose body (13) no tag stands for. */
+static const char parts[] = "\xef\xbb\xbf<!DOCTYPE html><body><template><li>x</template><svg><use xlink:href='#a' viewbox=1></svg>"
+                            "<math><mi></math><table><tr></table>";
+
+static void of_parts(void) {
     tl_document document = TL_NO_DOCUMENT;
-    FIRST(&document, "a", TL_REFUSED, TL_NO_NODE, 0, TL_NO_CAUSE);
-    LEAVES_BELOW(&document, 0, "a", TL_REFUSED, 0, TL_NO_CAUSE);
-    LEAVES_BELOW(&document, 0, "a[", TL_REFUSED, 2, TL_NO_NAME);
-    FIRST_BELOW(&document, 0, "a", TL_REFUSED, TL_NO_NODE, 0, TL_NO_CAUSE);
-    MATCHES(&document, 0, "a", TL_REFUSED, 0, 0, TL_NO_CAUSE);
-    WRONG(&document, "a[", 2, TL_NO_NAME);
-    WRONG(&document, "a", 0, TL_NO_CAUSE);
-    CHECK(tl_node_kind(&document, 0) == TL_NONE && tl_node_child(&document, 0) == TL_NO_NODE);
-    CHECK(tl_node_key(&document, 0, BYTES("a")) == TL_NO_KEY);
-    LEAVES(tl_node_name(&document, 0, OUT), TL_REFUSED, 0);
-    LEAVES(tl_node_keys(&document, 0, OUT), TL_REFUSED, 0);
-    LEAVES(tl_node_attributes(&document, 0, OUT), TL_REFUSED, 0);
-    LEAVES(tl_node_html(&document, 0, OUT), TL_REFUSED, 0);
-    LEAVES(tl_node_inner_html(&document, 0, OUT), TL_REFUSED, 0);
-    CHECK(tl_links(&document, (tl_node_links[1]){{0, 0}}, 1, &needed) == TL_REFUSED && needed == 0);
-    CHECK(tl_parse_html(BYTES("\xff"), &document) == TL_NOT_UNDERSTOOD && document.at == NULL);
-
-    CHECK(tl_parse_html(BYTES(written), &document) == TL_DONE);
-    asked_of_nodes(&document);
-    PUTS(tl_node_keys(&document, 1, OUT), "href\0" "hidden\0" "+40click\0");
-    PUTS(tl_attribute(&document, 1, BYTES("href"), OUT), "?a=1&amp;b=2");
-    CHECK(has_attributes(&document, 1, "href=?a=1&amp;b=2 hidden= +40click=f() "));
-    LEAVES(tl_node_attributes(&document, 1, OUT), TL_NO_ROOM, 3 * 17 + 4 + 12 + 6 + 8 + 3);
-    asked_below(&document);
-    SELECTS(&document, "a", 1, 3);
-    SELECTS(&document, "A + a", 3);
-    SELECTS(&document, "nav:has(a), b", 0, 8);
-    SELECTS(&document, "[href='?a=1&b=2']", 1);
-    SELECTS(&document, "[\\@click]", 1);
-    WRONG(&document, "p:hover", 2, TL_NO_PSEUDO_CLASS);
-    WRONG(&document, "a,", 2, TL_NO_SELECTOR);
-    WRONG(&document, "p:nth-child(9999999999)", 12, TL_LARGE_NUMBER);
-    size_t place = 99;
-    uint8_t cause = 99;
-    LEAVES(tl_select_css(&document, BYTES("\xff"), NUMBERS, &place, &cause), TL_NOT_UNDERSTOOD, 0);
-    CHECK(place == 0 && cause == TL_NO_CAUSE);
-    LEAVES(tl_select_css(&document, BYTES("a"), numbers, 1, &needed, &place, &cause), TL_NO_ROOM, 2);
-
-    /* A page that isn't understood leaves the document as it was. */
-    CHECK(tl_parse_html(BYTES("\xff"), &document) == TL_NOT_UNDERSTOOD);
-    asked_of_nodes(&document);
-    CHECK(tl_parse(BYTES("<b hidden>c"), &document) == TL_DONE);
-    CHECK(tl_node_key(&document, 0, BYTES("hidden")) == TL_KEY_ALONE);
-    PUTS(tl_node_attributes(&document, 0, OUT), "\6\0\0\0\0\0\0\0" "\0\0\0\0\0\0\0\0" "\1hidden");
-    CHECK(has_attributes(&document, 0, "hidden "));
-    SELECTS(&document, "b", 0);
+    CHECK(tl_parse_html(BYTES(parts), &document) == TL_DONE);
+    CHECK(tl_is_quirks(&document) == 0 && tl_node_count(&document) == 15);
+    CHECK(tl_node_kind(&document, 0) == TL_DOCTYPE && tl_node_kind(&document, 5) == TL_CONTENTS);
+    CHECK(comes_from(&document, 0, parts, "<!DOCTYPE html>") && comes_from(&document, 4, parts, "<template>"));
+    CHECK(comes_from_none(&document, 5) && comes_from_none(&document, 13) && comes_from(&document, 14, parts, "<tr>"));
+    PUTS(tl_node_outer_html(&document, 0, OUT), "<!DOCTYPE html>");
+    PUTS(tl_node_text(&document, 0, OUT), "");
+    PUTS(tl_node_outer_html(&document, 4, OUT), "<template><li>x</li></template>");
+    PUTS(tl_node_inner_html(&document, 4, OUT), "<li>x</li>");
+    PUTS(tl_node_inner_html(&document, 5, OUT), "<li>x</li>");
+    PUTS(tl_node_text(&document, 4, OUT), "");
+    PUTS(tl_node_text(&document, 5, OUT), "x");
+    CHECK(tl_node_parent(&document, 6) == 5 && tl_node_first_child(&document, 4) == 5);
+    CHECK(tl_node_namespace(&document, 8) == TL_SVG && tl_node_namespace(&document, 11) == TL_MATHML);
+    CHECK(has_attributes(&document, 9, "xlink:href=#a viewBox=1 "));
+    PUTS(tl_attribute(&document, 9, BYTES("xlink:href"), OUT), "#a");
+    LEAVES(tl_attribute(&document, 9, BYTES("href"), OUT), TL_REFUSED, 0);
+    LEAVES(tl_attribute(&document, 9, BYTES("viewbox"), OUT), TL_REFUSED, 0);
+    FIRST(&document, "li", TL_REFUSED, TL_NO_NODE, 0, TL_NO_CAUSE);
+    FIRST_BELOW(&document, 5, "li", TL_DONE, 6, 0, TL_NO_CAUSE);
+    MATCHES(&document, 6, "li", TL_DONE, 1, 0, TL_NO_CAUSE);
+    CHECK(tl_parse_html(BYTES("<p>x"), &document) == TL_DONE);
+    PUTS(tl_document_html(&document, OUT), "<html><head></head><body><p>x</p></body></html>");
+    CHECK(tl_parse_html(BYTES(""), &document) == TL_DONE && tl_node_count(&document) == 3);
     tl_free(&document);
 }
 
 static void calls(void) {
     tl_document document = TL_NO_DOCUMENT;
-    LEAVES(tl_find(&document, BYTES("a"), NUMBERS), TL_REFUSED, 0);
-    LEAVES(tl_attribute(&document, 0, BYTES("href"), OUT), TL_REFUSED, 0);
-    LEAVES(tl_node_text(&document, 0, OUT), TL_REFUSED, 0);
-    CHECK(tl_parse(BYTES("\xff"), &document) == TL_NOT_UNDERSTOOD && document.at == NULL);
+    asked_of_none(&document);
+    CHECK(tl_parse_html(BYTES("\xff"), &document) == TL_NOT_UNDERSTOOD && document.at == NULL);
 
     /* The page is given back at once, so what is asked is asked of the copy. */
     uint8_t *lent = malloc(sizeof page - 1);
     CHECK(lent != NULL);
     memcpy(lent, page, sizeof page - 1);
-    CHECK(tl_parse(lent, sizeof page - 1, &document) == TL_DONE && document.at != NULL);
+    CHECK(tl_parse_html(lent, sizeof page - 1, &document) == TL_DONE && document.at != NULL);
     memset(lent, '<', sizeof page - 1);
     free(lent);
-    asked(&document);
+    asked_of_nodes(&document);
+    asked_by_selectors(&document);
 
     /* A page that isn't understood leaves the document as it was; another page gives it back. */
-    CHECK(tl_parse(BYTES("\xff"), &document) == TL_NOT_UNDERSTOOD);
-    asked(&document);
-    CHECK(tl_parse(BYTES("<b>c"), &document) == TL_DONE);
+    CHECK(tl_parse_html(BYTES("\xff"), &document) == TL_NOT_UNDERSTOOD);
+    asked_of_nodes(&document);
+    CHECK(tl_parse_html(BYTES("<b>c"), &document) == TL_DONE);
     PUTS(tl_node_text(&document, 0, OUT), "c");
 
     /* Another document beside it. */
-    tl_document empty = TL_NO_DOCUMENT;
-    CHECK(tl_parse(BYTES(""), &empty) == TL_DONE && empty.at != NULL);
-    CHECK(found(tl_find(&empty, BYTES("b"), NUMBERS), NULL, 0));
-    FINDS(tl_find(&document, BYTES("b"), NUMBERS), 0);
+    tl_document other = TL_NO_DOCUMENT;
+    CHECK(tl_parse_html(BYTES("<i>d"), &other) == TL_DONE && other.at != NULL);
+    FIRST(&other, "b", TL_REFUSED, TL_NO_NODE, 0, TL_NO_CAUSE);
+    FIRST(&document, "b", TL_DONE, 3, 0, TL_NO_CAUSE);
 
     tl_free(&document);
     CHECK(document.at == NULL);
     tl_free(&document);
     CHECK(document.at == NULL);
-    LEAVES(tl_node_text(&document, 0, OUT), TL_REFUSED, 0);
-    tl_free(&empty);
+    asked_of_none(&document);
+    PUTS(tl_node_text(&other, 0, OUT), "d");
+    tl_free(&other);
+}
+
+/* A page whose tree is out of proportion to it: the text in each `p` opens again all that the first one holds. It leaves the document as
+ * it was. */
+static void out_of_proportion(void) {
+    enum { TIMES = 1000, ROOM = 16 * TIMES };
+    static char steep[ROOM];
+    tl_document document = TL_NO_DOCUMENT;
+    size_t len = (size_t)sprintf(steep, "<p>");
+    for (int row = 0; row < TIMES; row++) len += (size_t)sprintf(steep + len, "<i a%d>", row);
+    for (int row = 0; row < TIMES; row++) len += (size_t)sprintf(steep + len, "<p>x");
+    CHECK(tl_parse_html(BYTES("<b>c"), &document) == TL_DONE);
+    CHECK(tl_parse_html((const uint8_t *)steep, len, &document) == TL_NOT_UNDERSTOOD);
+    PUTS(tl_node_text(&document, 0, OUT), "c");
+    tl_free(&document);
 }
 
 /* Whether a call that is refused its request of this number answers so; it is done where it makes no more requests. */
@@ -348,100 +421,67 @@ static void calls(void) {
     CHECK(status == (is_done ? TL_DONE : TL_OUT_OF_MEMORY)); \
     if (is_done) break; \
     unchanged
+#define RUNS_OUT(call) \
+    for (long number = 0;; number++) { \
+        REFUSES(number, (call), CHECK(left(status, TL_OUT_OF_MEMORY, 0))); \
+    }
+/* The same of a selector, of whose place and cause nothing is told then, and of one number, which is that of none. */
+#define RUNS_OUT_OF(call, unchanged) \
+    for (long number = 0;; number++) { \
+        size_t place = 99; \
+        uint8_t cause = 99; \
+        REFUSES(number, (call), CHECK(unchanged); CHECK(place == 0 && cause == TL_NO_CAUSE)); \
+    }
+
+/* What takes no memory is answered though the first request would be refused. */
+static void without_memory(tl_document *document) {
+    refused = 0;
+    CHECK(tl_node_count(document) == NODES && tl_is_quirks(document) == 1 && tl_node_kind(document, 5) == TL_TEXT);
+    CHECK(tl_node_namespace(document, 3) == TL_HTML && tl_node_parent(document, 3) == 2 && tl_node_end(document, 3) == 8);
+    CHECK(comes_from(document, 3, page, "<NAV>"));
+    PUTS(tl_node_name(document, 3, OUT), "nav");
+    PUTS(tl_attribute(document, 4, BYTES("href"), OUT), "?a=1&b=2");
+    LEAVES(tl_node_text(document, NODES, OUT), TL_REFUSED, 0);
+    LEAVES(tl_node_attributes(document, NODES, OUT), TL_REFUSED, 0);
+    LEAVES(tl_node_outer_html(document, NODES, OUT), TL_REFUSED, 0);
+    LEAVES(tl_node_inner_html(document, NODES, OUT), TL_REFUSED, 0);
+    CHECK(tl_parse_html(BYTES("\xff"), document) == TL_NOT_UNDERSTOOD);
+    tl_free(document);
+    LEAVES(tl_document_html(document, OUT), TL_REFUSED, 0);
+    CHECK(refused == 0);
+    refused = -1;
+}
 
 static void refusals(void) {
     tl_document document = TL_NO_DOCUMENT;
-    CHECK(tl_parse(BYTES("<b>c"), &document) == TL_DONE);
+    CHECK(tl_parse_html(BYTES("<b>c"), &document) == TL_DONE);
+    RUNS_OUT(tl_document_html(&document, OUT));
+    PUTS(TL_DONE, "<html><head></head><body><b>c</b></body></html>");
     for (long number = 0;; number++) {
-        REFUSES(number, tl_parse(BYTES(page), &document), PUTS(tl_node_text(&document, 0, OUT), "c"));
-    }
-    asked(&document);
-    for (long number = 0;; number++) {
-        REFUSES(number, tl_find(&document, BYTES("nav > a"), NUMBERS), CHECK(left(status, TL_OUT_OF_MEMORY, 0)));
-    }
-    CHECK(found(TL_DONE, (const uint32_t[]){1, 3}, 2));
-    for (long number = 0;; number++) {
-        REFUSES(number, tl_node_text(&document, 0, OUT), CHECK(left(status, TL_OUT_OF_MEMORY, 0)));
-    }
-    CHECK(put(TL_DONE, "yz", 2));
-
-    /* Of what browsers read: the document stays as it was. */
-    for (long number = 0;; number++) {
-        REFUSES(number, tl_parse_html(BYTES(written), &document), PUTS(tl_node_text(&document, 0, OUT), "yz"));
+        REFUSES(number, tl_parse_html(BYTES(page), &document), PUTS(tl_node_text(&document, 0, OUT), "c"));
     }
     asked_of_nodes(&document);
-    for (long number = 0;; number++) {
-        size_t place = 99;
-        uint8_t cause = 99;
-        REFUSES(number, tl_select_css(&document, BYTES("nav > a"), NUMBERS, &place, &cause), CHECK(left(status, TL_OUT_OF_MEMORY, 0));
-                CHECK(place == 0 && cause == TL_NO_CAUSE));
-    }
-    CHECK(found(TL_DONE, (const uint32_t[]){1, 3}, 2));
-    for (long number = 0;; number++) {
-        size_t place = 99;
-        uint8_t cause = 99;
-        REFUSES(number, tl_node_select_css(&document, 0, BYTES("nav > a"), NUMBERS, &place, &cause),
-                CHECK(left(status, TL_OUT_OF_MEMORY, 0)); CHECK(place == 0 && cause == TL_NO_CAUSE));
-    }
-    CHECK(found(TL_DONE, (const uint32_t[]){1, 3}, 2));
-    for (long number = 0;; number++) {
-        size_t place = 99;
-        uint8_t cause = 99;
-        REFUSES(number, tl_first_css(&document, BYTES("nav > a"), &one, &place, &cause), CHECK(one == TL_NO_NODE);
-                CHECK(place == 0 && cause == TL_NO_CAUSE));
-    }
-    CHECK(one == 1);
-    for (long number = 0;; number++) {
-        size_t place = 99;
-        uint8_t cause = 99;
-        REFUSES(number, tl_node_first_css(&document, 0, BYTES("a"), &one, &place, &cause), CHECK(one == TL_NO_NODE);
-                CHECK(place == 0 && cause == TL_NO_CAUSE));
-    }
-    CHECK(one == 1);
-    for (long number = 0;; number++) {
-        size_t place = 99;
-        uint8_t cause = 99;
-        REFUSES(number, tl_node_matches_css(&document, 3, BYTES("nav > a"), &is_met, &place, &cause), CHECK(is_met == 0);
-                CHECK(place == 0 && cause == TL_NO_CAUSE));
-    }
+    RUNS_OUT(tl_node_text(&document, 3, OUT));
+    PUTS(TL_DONE, "yz");
+    RUNS_OUT(tl_node_outer_html(&document, 6, OUT));
+    PUTS(TL_DONE, "<a>z</a>");
+    RUNS_OUT(tl_node_inner_html(&document, 8, OUT));
+    PUTS(TL_DONE, "one<!-- no --><b>two</b>");
+    RUNS_OUT(tl_node_attributes(&document, 4, OUT));
+    CHECK(needed == 75 && is_rest(75) == 1);
+    RUNS_OUT_OF(tl_select_css(&document, BYTES("nav > a"), NUMBERS, &place, &cause), left(status, TL_OUT_OF_MEMORY, 0));
+    CHECK(found(TL_DONE, (const uint32_t[]){4, 6}, 2));
+    RUNS_OUT_OF(tl_node_select_css(&document, 3, BYTES("> a"), NUMBERS, &place, &cause), left(status, TL_OUT_OF_MEMORY, 0));
+    CHECK(found(TL_DONE, (const uint32_t[]){4, 6}, 2));
+    RUNS_OUT_OF(tl_first_css(&document, BYTES("nav > a"), &one, &place, &cause), one == TL_NO_NODE);
+    CHECK(one == 4);
+    RUNS_OUT_OF(tl_node_first_css(&document, 3, BYTES("a"), &one, &place, &cause), one == TL_NO_NODE);
+    CHECK(one == 4);
+    RUNS_OUT_OF(tl_node_closest_css(&document, 12, BYTES("body > p"), &one, &place, &cause), one == TL_NO_NODE);
+    CHECK(one == 8);
+    RUNS_OUT_OF(tl_node_matches_css(&document, 6, BYTES("nav > a"), &is_met, &place, &cause), is_met == 0);
     CHECK(is_met == 1);
-    for (long number = 0;; number++) {
-        REFUSES(number, tl_node_html(&document, 3, OUT), CHECK(left(status, TL_OUT_OF_MEMORY, 0)));
-    }
-    CHECK(put(TL_DONE, "<a>z</a>", 8));
-    for (long number = 0;; number++) {
-        refused = number;
-        uint8_t pairs[128];
-        tl_status status = tl_node_attributes(&document, 1, pairs, sizeof pairs, &needed);
-        int is_done = refused >= 0;
-        refused = -1;
-        CHECK(status == TL_DONE ? needed == 84 : !is_done && status == TL_OUT_OF_MEMORY && needed == 0);
-        if (is_done) break;
-    }
-    for (long number = 0;; number++) {
-        /* One of the requests is one that the call can do without. */
-        tl_node_links links[10];
-        refused = number;
-        tl_status status = tl_links(&document, links, 10, &needed);
-        int is_done = refused >= 0;
-        refused = -1;
-        CHECK(status == TL_DONE ? needed == 10 : !is_done && status == TL_OUT_OF_MEMORY && needed == 0);
-        if (is_done) break;
-    }
-    CHECK(tl_parse(BYTES(page), &document) == TL_DONE);
-
-    /* What takes no memory is answered though the first request would be refused. */
-    refused = 0;
-    PUTS(tl_attribute(&document, 1, BYTES("href"), OUT), "/x");
-    LEAVES(tl_node_text(&document, 1000, OUT), TL_REFUSED, 0);
-    LEAVES(tl_find(&document, BYTES("\xff"), NUMBERS), TL_NOT_UNDERSTOOD, 0);
-    LEAVES(tl_find(&document, BYTES(",a"), NUMBERS), TL_REFUSED, 0);
-    CHECK(found(tl_find(&document, BYTES("i"), NUMBERS), NULL, 0));
-    CHECK(tl_parse(BYTES("\xff"), &document) == TL_NOT_UNDERSTOOD);
-    tl_free(&document);
-    LEAVES(tl_find(&document, BYTES("a"), NUMBERS), TL_REFUSED, 0);
-    CHECK(refused == 0);
-    refused = -1;
+    without_memory(&document);
 }
 
 int main(void) {
@@ -450,8 +490,9 @@ int main(void) {
     /* Many times, so that memory that isn't given back would be seen. */
     for (int turn = 0; turn < 100; turn++) {
         calls();
-        of_html();
+        of_parts();
     }
+    out_of_proportion();
     refusals();
     return 0;
 }

@@ -30,17 +30,16 @@ static int leads(tl_document *document, const char *page, char *link, char *path
 /* Names the links at a key where a selector holds, and counts those that lead nowhere. */
 static tl_status check(tl_document *document, const char *page, const char *selector, const char *key, size_t room, int *lost) {
     uint32_t *nodes = malloc(room * sizeof *nodes);
-    uint8_t *value = malloc(room), *link = malloc(room + 1), *path = malloc(room + strlen(page) + 2), cause;
+    uint8_t *link = malloc(room + 1), *path = malloc(room + strlen(page) + 2), cause;
     size_t count, place, len;
-    tl_status status = nodes && value && link && path ? TL_DONE : TL_OUT_OF_MEMORY;
+    tl_status status = nodes && link && path ? TL_DONE : TL_OUT_OF_MEMORY;
     if (status == TL_DONE) status = tl_select_css(document, (uint8_t *)selector, strlen(selector), nodes, room, &count, &place, &cause);
     for (size_t at = 0; status == TL_DONE && at < count; at++) {
-        status = tl_attribute(document, nodes[at], (uint8_t *)key, strlen(key), value, room, &len);
-        if (status == TL_DONE) status = tl_decode_value(value, len, link, room, &len);
+        status = tl_attribute(document, nodes[at], (uint8_t *)key, strlen(key), link, room, &len);
         if (status == TL_DONE) link[len] = 0;
         if (status == TL_DONE && !leads(document, page, (char *)link, (char *)path, room)) printf("%s: %s\n", page, link), ++*lost;
     }
-    return free(path), free(link), free(value), free(nodes), status;
+    return free(path), free(link), free(nodes), status;
 }
 
 int main(int count, char **pages) {
@@ -50,8 +49,8 @@ int main(int count, char **pages) {
         size_t len = 0;
         uint8_t *page = read_path(pages[at], &len);
         tl_status status = page ? tl_parse_html(page, len, &document) : TL_NOT_UNDERSTOOD;
-        if (status == TL_DONE) status = check(&document, pages[at], "a[href]", "href", 5 * len + 1, &lost);
-        if (status == TL_DONE) status = check(&document, pages[at], "img[src]", "src", 5 * len + 1, &lost);
+        if (status == TL_DONE) status = check(&document, pages[at], "a[href]", "href", 3 * len + 1, &lost);
+        if (status == TL_DONE) status = check(&document, pages[at], "img[src]", "src", 3 * len + 1, &lost);
         if (status != TL_DONE) fprintf(stderr, "%s: %s\n", pages[at], tl_status_text(status)), lost++;
         tl_free(&document), free(page);
     }

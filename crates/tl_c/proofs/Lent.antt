@@ -4,13 +4,12 @@ use Rattle.std.specs.Prelude.{◌&&◌, is_none}
 use Rattle.std.proofs.lemmas.Bool.{cases_Bool}
 use Rattle.tl_page.specs.Page.{IsPage, is_page}
 use Rattle.tl_page.proofs.Pages.{is_page-IsPage, is_page-true}
-use Rattle.tl_safe.specs.ListOptions.{ListOptions}
+use Rattle.tl_tree_safe.specs.ListOptions.{ListOptions}
 use Rattle.tl_page.specs.Outcome.{not_understood, refused}
-use Rattle.tl_safe.specs.Lists.{ListedWords}
-use Rattle.tl_safe.specs.Refusals.{Refusal, are_lawful, first_refusal}
+use Rattle.tl_tree_safe.specs.Lists.{ListedWords}
+use Rattle.tl_tree_safe.specs.Refusals.{Refusal, are_lawful, first_refusal}
 use Rattle.tl_c.specs.LentLists.{are_texts, is_text, kept_by_lists, kept_lawful, kept_with, lent_lists, lists_over, number_of_refusal, said_options, said_text}
-use Rattle.tl_c.specs.Forms.{of_form}
-use Rattle.tl_c.specs.Pages.{kept_page}
+use Rattle.tl_c.specs.SafePages.{kept_page}
 use Rattle.tl_c.specs.Policies.{lists_of_number}
 use Rattle.tl_c.specs.declared.lent_lists.LentLists.{LentLists}
 
@@ -68,7 +67,7 @@ lawful-cause own e = none_cases (first_refusal own) e
 
 module _ (own : ListedWords) (page : List ℕ) where
   -- lists that are a policy, and lists that are none
-  pub lawful-kept : are_lawful own ≡ true → kept_lawful own page ≡ of_form (kept_page own) page
+  pub lawful-kept : are_lawful own ≡ true → kept_lawful own page ≡ kept_page own page
   lawful-kept e = if_true (are_lawful own) _ _ e
 
   pub unlawful-kept : are_lawful own ≡ false → kept_lawful own page ≡ refused

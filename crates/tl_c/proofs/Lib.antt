@@ -1,10 +1,11 @@
-pub mod Forms
+pub mod Founds
 pub mod Given
+pub mod Keys
 pub mod Lent
-pub mod LinkLemmas
-pub mod Queries
 pub mod Readings
 pub mod Room
+pub mod Rows
+pub mod SafePages
 pub mod Selectors
 mod Texts
 mod Values

@@ -3,9 +3,7 @@ use denote.Enum.Declared.{tag_of}
 use Rattle.std.proofs.Common.{◌≡◌, ◌≢◌, ◌↔◌, ◌+◌, ◌++◌, ℕ, Bool, true, false, List, [], length, take, drop, refl, sym, ap₂, ◌∙◌, subst, if◌then◌else◌, arith}
 use Rattle.std.proofs.Math.Seq.{take-append_seam}
 use Rattle.std.proofs.lemmas.Bool.{le-ltb}
-use Rattle.std.specs.Global.{Global}
-use Rattle.std.specs.Prelude.{IfOk, IsOkAnd, Result, Ok, Err, string_bytes}
-use Rattle.std.specs.declared.string.String.{String}
+use Rattle.std.specs.Prelude.{IfOk, IsOkAnd, Result, Ok, Err}
 use Rattle.tl_page.specs.Outcome.{Fails, Outcome, not_understood, refused, success}
 use Rattle.tl_page.specs.contracts.failure.Failure.{the_type}
 use Rattle.tl_page.specs.declared.failure.Failure.{Failure}
@@ -79,8 +77,8 @@ module _ {X : Type 0} where
       let other : status ≢ 3 = λ is_three. omega (arith, e, is_three) in
       front_by items old new needed (is_too_long items old) (sym e ∙ puts.answered other) (puts.counted other) (puts.filled other)
 
--- what holds of the text that is given holds of the bytes that were put
-pub of_given : (given : Result (String Global) Failure) (P : List ℕ → Type 0) (bytes : List ℕ) → IsOkAnd given (λ text. bytes ≡ string_bytes text)
-    → IfOk given (λ text. P (string_bytes text)) → P bytes
-of_given (Ok text) P bytes e holds = subst P (sym e) holds
-of_given (Err failure) P bytes e holds = absurd e
+-- what holds of the value that is given holds of the bytes that were put
+pub of_given : {A : Type 0} (view : A → List ℕ) (given : Result A Failure) (P : List ℕ → Type 0) (bytes : List ℕ) → IsOkAnd given (λ value. bytes ≡ view value)
+    → IfOk given (λ value. P (view value)) → P bytes
+of_given view (Ok value) P bytes e holds = subst P (sym e) holds
+of_given view (Err failure) P bytes e holds = absurd e

@@ -1,7 +1,6 @@
 -- Selectors of CSS, and what they find.
 use Rattle.std.proofs.Common.{◌≡◌, ◌≢◌, ◌↔◌, ℕ, Bool, true, false, List, Option, None, Some, Result, Ok, Err, refl, ap, subst, sym, if◌then◌else◌}
 use Rattle.std.specs.Prelude.{IsSome}
-use Rattle.std.specs.Option.{is_some, option_map}
 use Rattle.std.specs.Result.{result_err}
 use Rattle.std.specs.Str.{is_utf8}
 use Rattle.tl_css.specs.Reading.{css_at}
@@ -11,26 +10,27 @@ use Rattle.tl_page.specs.Outcome.{Fails, Outcome, not_understood, refused, succe
 use Rattle.tl_page.specs.declared.failure.Failure.{Failure}
 use Rattle.tl_page.specs.declared.failure.Failure.TheVariants.{Refused, NotUnderstood, OutOfMemory, Fault}
 use Rattle.tl_page.proofs.Outcomes.{fails_success}
-use Rattle.tl_c.specs.Css.{answer_by, css_in, outcome_of_css, wrong_in}
+use Rattle.tl_c.specs.Css.{answer_by, css_by, css_in, found_or_refused, outcome_of_css, read_by, wrong_by, wrong_in}
 use Rattle.tl_c.specs.Queries.{outcome_of_some}
+use Rattle.tl_c.specs.declared.css.Reading.{Reading}
 
-module _ (bytes text : List ℕ) (utf8 : is_utf8 bytes ≡ true) (same : text ≡ bytes) where
-  read : (r : Result Css (ℕ × Cause)) → css_at text ≡ r → css_at bytes ≡ r
-  read r e = subst (λ (t : List ℕ). css_at t ≡ r) same e
+module _ (reading : Reading) (bytes text : List ℕ) (utf8 : is_utf8 bytes ≡ true) (same : text ≡ bytes) where
+  read : (r : Result Css (ℕ × Cause)) → read_by reading text ≡ r → read_by reading bytes ≡ r
+  read r e = subst (λ (t : List ℕ). read_by reading t ≡ r) same e
 
   -- a text that is a selector
-  pub css_in-right : (e : Css) → css_at text ≡ Ok e → css_in bytes ≡ success e
-  css_in-right e found = rw utf8 (ap outcome_of_css (read (Ok e) found))
+  pub css_by-right : (e : Css) → read_by reading text ≡ Ok e → css_by reading bytes ≡ success e
+  css_by-right e found = rw utf8 (ap outcome_of_css (read (Ok e) found))
 
-  pub wrong_in-right : (e : Css) → css_at text ≡ Ok e → wrong_in bytes ≡ None
-  wrong_in-right e found = rw utf8 (ap result_err (read (Ok e) found))
+  pub wrong_by-right : (e : Css) → read_by reading text ≡ Ok e → wrong_by reading bytes ≡ None
+  wrong_by-right e found = rw utf8 (ap result_err (read (Ok e) found))
 
   -- and one that is none
-  pub css_in-wrong : (wrong : ℕ × Cause) → css_at text ≡ Err wrong → css_in bytes ≡ refused
-  css_in-wrong wrong found = rw utf8 (ap outcome_of_css (read (Err wrong) found))
+  pub css_by-wrong : (wrong : ℕ × Cause) → read_by reading text ≡ Err wrong → css_by reading bytes ≡ refused
+  css_by-wrong wrong found = rw utf8 (ap outcome_of_css (read (Err wrong) found))
 
-  pub wrong_in-wrong : (wrong : ℕ × Cause) → css_at text ≡ Err wrong → wrong_in bytes ≡ Some wrong
-  wrong_in-wrong wrong found = rw utf8 (ap result_err (read (Err wrong) found))
+  pub wrong_by-wrong : (wrong : ℕ × Cause) → read_by reading text ≡ Err wrong → wrong_by reading bytes ≡ Some wrong
+  wrong_by-wrong wrong found = rw utf8 (ap result_err (read (Err wrong) found))
 
 -- what is no selector has no answer
 pub answer_by-unread : {X A : Type 0} (css : Outcome Css) (place : Option X) (answer : A) (failure : Failure) → Fails css failure → Fails (answer_by css place answer) failure
@@ -44,18 +44,22 @@ answer_by-unread not_understood place answer NotUnderstood fails = refl
 answer_by-unread not_understood place answer OutOfMemory fails = tt
 answer_by-unread not_understood place answer Fault fails = absurd fails
 
--- where there is no node that is refused, and else it is an answer
-pub at_none : {X A : Type 0} (place : Option X) (answer : A) → is_some place ≡ false → outcome_of_some (λ _. success answer) place ≡ refused
-at_none None answer e = refl
-at_none (Some x) answer e = absurd (cc)
+found_fails : (outcome : Outcome (Option ℕ)) (failure : Failure) → Fails outcome failure → Fails (found_or_refused outcome) failure
+found_fails (success number) failure fails = fails_success number (outcome_of_some success number) failure fails
+found_fails refused Refused fails = refl
+found_fails refused NotUnderstood fails = absurd (cc)
+found_fails refused OutOfMemory fails = tt
+found_fails refused Fault fails = absurd fails
+found_fails not_understood Refused fails = absurd (cc)
+found_fails not_understood NotUnderstood fails = refl
+found_fails not_understood OutOfMemory fails = tt
+found_fails not_understood Fault fails = absurd fails
 
-pub at_some : {X A : Type 0} (place : Option X) (answer : A) → is_some place ≡ true → outcome_of_some (λ _. success answer) place ≡ success answer
-at_some None answer e = absurd (cc)
-at_some (Some x) answer e = refl
-
-pub is_some-map : {X Y : Type 0} (f : X → Y) (place : Option X) → is_some (option_map f place) ≡ is_some place
-is_some-map f None = refl
-is_some-map f (Some x) = refl
+-- nor has it a number that is found
+pub found_unread : {X : Type 0} (css : Outcome Css) (place : Option X) (number : Option ℕ) (failure : Failure) → Fails css failure
+    → Fails (found_or_refused (answer_by css place number)) failure
+found_unread css place number failure fails =
+    found_fails (answer_by css place number) failure (answer_by-unread css place number failure fails)
 
 -- an answer is one where both say whether the same holds
 pub one_answer : (a b : Bool) (P : Type 0) → (a ≡ true) ↔ P → (b ≡ true) ↔ P → a ≡ b

@@ -2,17 +2,16 @@
 use Rattle.std.specs.Prelude.{ℕ, Bool, true, ◌&&◌, List, Option, None, Some, if◌then◌else◌}
 use Rattle.std.specs.Option.{option_map_or}
 use Rattle.std.specs.Str.{is_utf8}
-use Rattle.tl_safe.specs.ListOptions.{ListOptions, list_options, lists_or_default}
-use Rattle.tl_safe.specs.declared.word_lists.ListTexts.{ListTexts}
+use Rattle.tl_tree_safe.specs.ListOptions.{ListOptions, list_options, lists_or_default}
+use Rattle.tl_tree_safe.specs.declared.word_lists.ListTexts.{ListTexts}
 use Rattle.tl_page.specs.Outcome.{Outcome, not_understood, refused, success}
 use Rattle.tl_page.specs.Page.{is_page}
-use Rattle.tl_safe.specs.Lists.{ListedWords}
-use Rattle.tl_safe.specs.Names.{listed_words}
-use Rattle.tl_safe.specs.Refusals.{Refusal, are_lawful, first_refusal}
-use Rattle.tl_safe.specs.declared.refusal.Reason.{Reason}
-use Rattle.tl_safe.specs.declared.refusal.Reason.TheVariants.{MalformedTag, OpaqueTag, StructuralTag, MalformedKey, ScriptKey, ActiveKey, LinkKey, MalformedLink, ActiveScheme, NoScheme, MalformedPrefix, UnlistedMark}
-use Rattle.tl_c.specs.Forms.{of_form}
-use Rattle.tl_c.specs.Pages.{kept_page}
+use Rattle.tl_tree_safe.specs.Lists.{ListedWords}
+use Rattle.tl_tree_safe.specs.Policies.{listed_words}
+use Rattle.tl_tree_safe.specs.Refusals.{Refusal, are_lawful, first_refusal}
+use Rattle.tl_tree_safe.specs.declared.refusal.Reason.{Reason}
+use Rattle.tl_tree_safe.specs.declared.refusal.Reason.TheVariants.{MalformedTag, OpaqueTag, StructuralTag, MalformedKey, ScriptKey, ActiveKey, LinkKey, MalformedLink, ActiveScheme, NoScheme, MalformedPrefix, UnlistedMark, NoTableBody, NoRow, NoCell, NoCaption, NoTable}
+use Rattle.tl_c.specs.SafePages.{kept_page}
 use Rattle.tl_c.specs.Policies.{lists_of_number}
 use Rattle.tl_c.specs.Queries.{outcome_of_some}
 use Rattle.tl_c.specs.declared.lent_lists.LentList.{LentList}
@@ -60,10 +59,9 @@ lent_lists lists =
 abbrev pub lists_in_texts : ListTexts → ListedWords
 lists_in_texts texts = lists_or_default (list_options texts) (listed_words texts.own)
 
--- what a policy of these lists keeps of a page that is read as browsers read it; lists that are no
--- policy are refused
+-- what a policy of these lists keeps of a page; lists that are no policy are refused
 abbrev pub kept_lawful : ListedWords → List ℕ → Outcome (List ℕ)
-kept_lawful own page = if are_lawful own then of_form (kept_page own) page else refused
+kept_lawful own page = if are_lawful own then kept_page own page else refused
 
 abbrev pub kept_by_lists : Outcome ListedWords → List ℕ → Outcome (List ℕ)
 kept_by_lists (success own) page = kept_lawful own page
@@ -101,6 +99,11 @@ number_of_reason ActiveScheme = 9
 number_of_reason NoScheme = 10
 number_of_reason MalformedPrefix = 11
 number_of_reason UnlistedMark = 12
+number_of_reason NoTableBody = 13
+number_of_reason NoRow = 14
+number_of_reason NoCell = 15
+number_of_reason NoCaption = 16
+number_of_reason NoTable = 17
 
 -- the number of why lists are no policy, 0 where they are one
 abbrev pub number_of_refusal : Option Refusal → ℕ

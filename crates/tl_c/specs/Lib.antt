@@ -1,13 +1,11 @@
 pub mod Css
 pub mod Edits
-pub mod Forms
 pub mod LentLists
-pub mod Links
 pub mod Nodes
 pub mod Owned
-pub mod Pages
-pub mod Parts
 pub mod Patches
 pub mod Policies
 pub mod Puts
 pub mod Queries
+pub mod Readings
+pub mod SafePages

@@ -1,9 +1,9 @@
 -- The policies that have a number in the header.
 use Rattle.std.specs.Prelude.{◌==◌, ℕ, List, Option, None, Some, if◌then◌else◌}
-use Rattle.tl_safe.specs.Lists.{ListedWords, blog_lists, comment_lists, document_lists}
 use Rattle.tl_page.specs.Outcome.{Outcome, not_understood}
-use Rattle.tl_c.specs.Forms.{of_form}
-use Rattle.tl_c.specs.Pages.{kept_page}
+use Rattle.tl_c.specs.SafePages.{kept_page}
+use Rattle.tl_tree_safe.specs.Lists.{ListedWords}
+use Rattle.tl_tree_safe.specs.OwnLists.{blog_lists, comment_lists, document_lists}
 
 -- the lists of the policy of a number, if it has one
 abbrev pub lists_of_number : ℕ → Option ListedWords
@@ -13,8 +13,7 @@ lists_of_number number =
     else if number == 2 then Some document_lists
     else None
 
--- what a policy of these lists keeps of a page that is read as browsers read it; where there are
--- none that is not understood
+-- what a policy of these lists keeps of a page; where there are none that is not understood
 abbrev pub kept_by : Option ListedWords → List ℕ → Outcome (List ℕ)
 kept_by None page = not_understood
-kept_by (Some lists) page = of_form (kept_page lists) page
+kept_by (Some lists) page = kept_page lists page

@@ -1,9 +1,6 @@
 -- What a caller in C finds after a call.
-use Rattle.std.specs.Prelude.{◌≡◌, ◌≢◌, ◌<◌, ◌⊎◌, ℕ, Bool, List, ◌++◌, Option, IsSomeAnd, length, drop, nat_lt, if◌then◌else◌}
-use Rattle.tl_spec.specs.Tree.Document.{Document}
-use Rattle.tl.specs.View.{document_of}
+use Rattle.std.specs.Prelude.{◌≡◌, ◌≢◌, ℕ, Bool, List, ◌++◌, length, drop, nat_lt, if◌then◌else◌}
 use Rattle.tl_page.specs.Outcome.{Outcome, not_understood, refused, status_of, success, written_of}
-use Rattle.tl_c.specs.declared.parsed_page.ParsedPage.{ParsedPage}
 
 -- more items than there is room for
 abbrev pub is_too_long : {X : Type 0} → List X → List X → Bool
@@ -40,14 +37,3 @@ pub record PutsOne {X : Type 0} (outcome : Outcome X) (none new : X) (status : �
   pub answered : status ≢ 3 → status ≡ status_of outcome
   pub filled : status ≢ 3 → new ≡ value_or none outcome
   pub unfilled : status ≡ 3 → new ≡ none
-
--- A page is read into a document (what it held, and what it holds after the call): the status, and
--- the document.
-pub record Reads (read : Outcome Document) (old new : Option ParsedPage) (status : ℕ) : Type 0 where
-  pub range : (status ≡ 0) ⊎ (status ≡ 2) ⊎ (status ≡ 3)
-  -- 0: it holds the document of the page
-  pub is_read : status ≡ 0 → IsSomeAnd new (λ parsed. read ≡ success (document_of parsed.document))
-  -- 2: the page is none
-  pub is_not_understood : status ≡ 2 → read ≡ not_understood
-  -- 2 and 3: it holds what it held; 3 is said where memory ran out
-  pub untouched : 0 < status → new ≡ old

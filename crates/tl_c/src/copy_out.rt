@@ -1,12 +1,14 @@
 //! What is put into the room that a caller lends.
-ghost use Rattle.std.specs.Prelude.{◌≡◌, ◌≢◌, ◌↔◌, ℕ, List, Err, IsOkAnd, option_copied, string_bytes, take};
+ghost use Rattle.std.specs.Prelude.{◌≡◌, ◌≢◌, ◌↔◌, ℕ, List, Err, IsOkAnd, option_copied, take};
 ghost use Rattle.tl_page.specs.Outcome.{Fails, Gives, Outcome, success};
 ghost use Rattle.tl_page.specs.declared.failure.Failure.TheVariants.{NotUnderstood, OutOfMemory, Refused};
 ghost use Rattle.tl_c.specs.Css.{first_of};
+ghost use Rattle.tl_c.specs.Nodes.{PutsSource};
 ghost use Rattle.tl_c.specs.Puts.{Puts, PutsOne};
 ghost use Rattle.tl_c.specs.Queries.{outcome_of_some};
 
 use tl_page::Failure;
+use tl_tree::Source;
 
 // The room is smaller than what is to be put there.
 const NO_ROOM: u8 = 4;
@@ -62,24 +64,11 @@ pub(crate) fn copy_result<T: Copy + Drop>(
     ensures refused { (result ≡ 1) ↔ (given ≡ Err Refused) }
     ensures not_understood { (result ≡ 2) ↔ (given ≡ Err NotUnderstood) }
     ensures memory { (result ≡ 3) ↔ (given ≡ Err OutOfMemory) }
+    ensures items { result ≡ 0
+        → IsOkAnd given (λ items. take needed.new out.new ≡ items.items) }
 {
     match given {
         Ok(items) => copy_items(items.as_slice(), out, needed),
-        Err(failure) => report_failure(failure, out, needed),
-    }
-}
-
-// Puts a text that was given, or answers why none was.
-pub(crate) fn copy_text(given: Result<String, Failure>, out: &mut [u8], needed: &mut usize) -> u8
-    ensures put { (outcome : Outcome (List ℕ)) → Gives string_bytes outcome given
-        → Puts outcome out.old out.new needed.new result }
-    ensures refused { (result ≡ 1) ↔ (given ≡ Err Refused) }
-    ensures not_understood { given ≡ Err NotUnderstood → result ≡ 2 }
-    ensures text { result ≡ 0
-        → IsOkAnd given (λ text. take needed.new out.new ≡ string_bytes text) }
-{
-    match given {
-        Ok(text) => copy_items(text.as_bytes(), out, needed),
         Err(failure) => report_failure(failure, out, needed),
     }
 }
@@ -110,6 +99,24 @@ pub(crate) fn put_one<T: Copy>(given: Result<T, Failure>, none: T, out: &mut T) 
         Err(failure) => {
             *out = none;
             failure as u8
+        }
+    }
+}
+
+/// Puts where in the page something comes from; where that is nowhere, 0 and 0, and refuses it.
+pub(crate) fn put_source(source: Option<Source>, start: &mut usize, end: &mut usize) -> u8
+    ensures { PutsSource source start.new end.new result }
+{
+    match source {
+        Some(source) => {
+            *start = source.start;
+            *end = source.end;
+            0
+        }
+        None => {
+            *start = 0;
+            *end = 0;
+            1
         }
     }
 }

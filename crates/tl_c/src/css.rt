@@ -1,20 +1,28 @@
 //! Where selectors of CSS hold in the document that is held, if one is.
-ghost use Rattle.std.specs.Prelude.{◌≡◌, ◌≢◌, ℕ, Bool, Err, IfOk, List, None, option_map, slice_get};
-ghost use Rattle.std.specs.Option.{is_some};
-ghost use Rattle.tl.specs.View.{document_of};
+ghost use Rattle.std.specs.Prelude.{◌≡◌, ◌≢◌, ℕ, Bool, Err, IfErr, IfOk, List, None, Ok, Option, option_map};
+ghost use Rattle.tl_c.specs.Css.{AreFoundBelowBy, AreFoundBy, IsClosestBy, IsFirstBy, IsTold, TellsAt, answer_by, css_by, css_in, found_or_refused, number_of_cause, read_by, wrong_by, wrong_in};
+ghost use Rattle.tl_c.specs.Queries.{one_if, outcome_of_some, short, tree_held, tree_in};
+ghost use Rattle.tl_c.specs.declared.css.Reading.TheVariants.{Relative};
+ghost use Rattle.tl_css.specs.StateView.{IsCause};
 ghost use Rattle.tl_page.specs.Outcome.{Gives, success};
 ghost use Rattle.tl_page.specs.declared.failure.Failure.TheVariants.{OutOfMemory};
-ghost use Rattle.tl_css_select.specs.Links.{one_if};
-ghost use Rattle.tl_c.specs.Css.{AreFoundBelowBy, AreFoundBy, IsTold, TellsAt, answer_by, css_in, number_of_cause, wrong_in};
-ghost use Rattle.tl_c.specs.Queries.{node_in};
 
+use crate::held::{one_if, short, short_numbers, tree_at};
 use crate::parsed_page::ParsedPage;
 use crate::text::text_of;
 use std::alloc::Global;
-use tl::VDom;
-use tl_css::{Cause, Selector, SelectorError, parse};
-use tl_extract::node::kind_of;
+use tl_css::{Cause, Selector, SelectorError, parse, parse_relative};
 use tl_page::Failure;
+use tl_tree_select::{below, closest, first, matches};
+
+/// How bytes are read as a selector.
+#[derive(Clone, Copy)]
+pub(crate) enum Reading {
+    /// Alone.
+    Whole,
+    /// Relative to a node: each of a list may begin with a combinator, which leads from there.
+    Relative,
+}
 
 // The number of a cause in `tl.h`.
 fn number_of_cause(cause: Cause) -> u8
@@ -39,23 +47,36 @@ fn number_of_cause(cause: Cause) -> u8
     }
 }
 
+// The selector that a text is.
+fn parse_by(alloc: Global, reading: Reading, text: &str) -> Result<Selector, SelectorError>
+    ensures found { IfOk result (λ e. read_by reading text.now ≡ Ok e) }
+    ensures cause { IfErr result (IsCause (read_by reading text.now)) }
+{
+    match reading {
+        Reading::Whole => parse(alloc, text),
+        Reading::Relative => parse_relative(alloc, text),
+    }
+}
+
 // The selector that bytes are. Where they are none, it says the first byte that is wrong, and the
 // number of the cause.
 pub(crate) fn read_selector(
     alloc: Global,
+    reading: Reading,
     selector: &[u8],
     place: &mut usize,
     cause: &mut u8,
 ) -> Result<Selector, Failure>
-    ensures reads { Gives (λ e. e) (css_in selector.now) result }
+    ensures reads { Gives (λ e. e) (css_by reading selector.now) result }
     ensures right { IfOk result (λ _. IsTold None place.new cause.new) }
-    ensures told { result ≢ Err OutOfMemory → IsTold (wrong_in selector.now) place.new cause.new }
+    ensures told { result ≢ Err OutOfMemory →
+        IsTold (wrong_by reading selector.now) place.new cause.new }
     ensures lost { result ≡ Err OutOfMemory → IsTold None place.new cause.new }
 {
     *place = 0;
     *cause = 0;
     let text = text_of(selector)?;
-    match parse(alloc, text) {
+    match parse_by(alloc, reading, text) {
         Ok(selector) => Ok(selector),
         Err(SelectorError::OutOfMemory) => Err(Failure::OutOfMemory),
         Err(SelectorError::Text { at, cause: why }) => {
@@ -66,14 +87,7 @@ pub(crate) fn read_selector(
     }
 }
 
-// Whether a document has a node of this number.
-fn has_node(document: &VDom<'_>, node: u32) -> bool
-    ensures { result ≡ is_some (slice_get (document_of document.now).nodes node) }
-{
-    kind_of(document, node).is_some()
-}
-
-// The numbers of the tags of the document that is held where a selector holds.
+// The numbers of the elements where a selector holds.
 fn select(
     alloc: Global,
     held: &Option<Box<ParsedPage>>,
@@ -82,16 +96,46 @@ fn select(
     ensures { let parsed = option_map (λ own. own.value) held.now in
         let css = success selector.now in
         (ns : List ℕ) → AreFoundBy css parsed ns
-        → Gives (λ numbers. numbers.items) (answer_by css parsed ns) result }
+        → Gives (λ numbers. numbers.items) (answer_by css (tree_held parsed) ns) result }
 {
     let Some(own) = held else {
         return Err(Failure::Refused);
     };
-    let numbers = own.document.forest().select_decoded(alloc, selector)?;
-    Ok(numbers)
+    let numbers = tl_tree_select::select(alloc, &own.tree, selector)?;
+    Ok(short_numbers(alloc, numbers.as_slice())?)
 }
 
-// The numbers of those of them below a node.
+// A number that was found, in 32 bits; where none was that is refused.
+fn short_found(found: Option<usize>) -> Result<u32, Failure>
+    ensures { Gives (λ number. number)
+        (outcome_of_some success (option_map short found)) result }
+{
+    match found {
+        Some(number) => Ok(short(number)),
+        None => Err(Failure::Refused),
+    }
+}
+
+// The number of the first of them.
+fn select_first(
+    alloc: Global,
+    held: &Option<Box<ParsedPage>>,
+    selector: &Selector,
+) -> Result<u32, Failure>
+    ensures { let parsed = option_map (λ own. own.value) held.now in
+        let css = success selector.now in
+        (n : Option ℕ) → IsFirstBy css parsed n →
+        let outcome = found_or_refused (answer_by css (tree_held parsed) n) in
+        Gives (λ number. number) outcome result }
+{
+    let Some(own) = held else {
+        return Err(Failure::Refused);
+    };
+    let found = first(alloc, &own.tree, selector)?;
+    short_found(found)
+}
+
+// The numbers of the elements below a node where a selector holds.
 fn select_below(
     alloc: Global,
     held: &Option<Box<ParsedPage>>,
@@ -101,24 +145,13 @@ fn select_below(
     ensures { let parsed = option_map (λ own. own.value) held.now in
         let css = success selector.now in
         (ns : List ℕ) → AreFoundBelowBy node css parsed ns
-        → Gives (λ numbers. numbers.items) (answer_by css (node_in node parsed) ns) result }
+        → Gives (λ numbers. numbers.items) (answer_by css (tree_in node parsed) ns) result }
 {
-    let Some(own) = held else {
+    let Some(tree) = tree_at(held, node) else {
         return Err(Failure::Refused);
     };
-    if !has_node(own.document.get_ref(), node) {
-        return Err(Failure::Refused);
-    }
-    let forest = own.document.forest();
-    let numbers = forest.select_decoded_below(alloc, node, selector)?;
-    Ok(numbers)
-}
-
-// 1 for yes, 0 for no.
-fn one_if(holds: bool) -> u8
-    ensures { result ≡ one_if holds }
-{
-    if holds { 1 } else { 0 }
+    let numbers = below(alloc, tree, node as usize, selector)?;
+    Ok(short_numbers(alloc, numbers.as_slice())?)
 }
 
 // Whether a selector holds at a node: 1 where it does, and else 0.
@@ -131,22 +164,39 @@ fn holds_at(
     ensures { let parsed = option_map (λ own. own.value) held.now in
         let css = success selector.now in
         (holds : Bool) → TellsAt node css parsed holds
-        → Gives (λ answer. answer) (answer_by css (node_in node parsed) (one_if holds)) result }
+        → Gives (λ answer. answer) (answer_by css (tree_in node parsed) (one_if holds)) result }
 {
-    let Some(own) = held else {
+    let Some(tree) = tree_at(held, node) else {
         return Err(Failure::Refused);
     };
-    if !has_node(own.document.get_ref(), node) {
-        return Err(Failure::Refused);
-    }
-    let holds = own.document.forest().holds_decoded(alloc, node, selector)?;
+    let holds = matches(alloc, tree, node as usize, selector)?;
     Ok(one_if(holds))
+}
+
+// The number of the innermost element from a node on outwards where a selector holds.
+fn innermost(
+    alloc: Global,
+    held: &Option<Box<ParsedPage>>,
+    node: u32,
+    selector: &Selector,
+) -> Result<u32, Failure>
+    ensures { let parsed = option_map (λ own. own.value) held.now in
+        let css = success selector.now in
+        (n : Option ℕ) → IsClosestBy node css parsed n →
+        let outcome = found_or_refused (answer_by css (tree_in node parsed) n) in
+        Gives (λ number. number) outcome result }
+{
+    let Some(tree) = tree_at(held, node) else {
+        return Err(Failure::Refused);
+    };
+    let found = closest(alloc, tree, node as usize, selector)?;
+    short_found(found)
 }
 
 // Each of these reads the selector first. Of bytes that are none it says the first one that is
 // wrong, and the number of the cause, and else 0 and 0.
 
-/// The numbers of the tags where a selector holds; names and values are compared decoded.
+/// The numbers of the elements where a selector holds.
 pub(crate) fn find_css(
     alloc: Global,
     held: &Option<Box<ParsedPage>>,
@@ -157,15 +207,35 @@ pub(crate) fn find_css(
     ensures finds { let parsed = option_map (λ own. own.value) held.now in
         let css = css_in selector.now in
         (ns : List ℕ) → AreFoundBy css parsed ns →
-        Gives (λ numbers. numbers.items) (answer_by css parsed ns) result }
+        Gives (λ numbers. numbers.items) (answer_by css (tree_held parsed) ns) result }
     ensures told { result ≢ Err OutOfMemory → IsTold (wrong_in selector.now) place.new cause.new }
     ensures lost { result ≡ Err OutOfMemory → IsTold None place.new cause.new }
 {
-    let selector = read_selector(alloc, selector, place, cause)?;
+    let selector = read_selector(alloc, Reading::Whole, selector, place, cause)?;
     select(alloc, held, &selector)
 }
 
-/// The numbers of those of them below a node.
+/// The number of the first of them.
+pub(crate) fn find_first_css(
+    alloc: Global,
+    held: &Option<Box<ParsedPage>>,
+    selector: &[u8],
+    place: &mut usize,
+    cause: &mut u8,
+) -> Result<u32, Failure>
+    ensures finds { let parsed = option_map (λ own. own.value) held.now in
+        let css = css_in selector.now in
+        (n : Option ℕ) → IsFirstBy css parsed n →
+        let outcome = found_or_refused (answer_by css (tree_held parsed) n) in
+        Gives (λ number. number) outcome result }
+    ensures told { result ≢ Err OutOfMemory → IsTold (wrong_in selector.now) place.new cause.new }
+    ensures lost { result ≡ Err OutOfMemory → IsTold None place.new cause.new }
+{
+    let selector = read_selector(alloc, Reading::Whole, selector, place, cause)?;
+    select_first(alloc, held, &selector)
+}
+
+/// The numbers of the elements below a node where a selector holds.
 pub(crate) fn find_css_below(
     alloc: Global,
     held: &Option<Box<ParsedPage>>,
@@ -175,13 +245,14 @@ pub(crate) fn find_css_below(
     cause: &mut u8,
 ) -> Result<Vec<u32>, Failure>
     ensures finds { let parsed = option_map (λ own. own.value) held.now in
-        let css = css_in selector.now in
+        let css = css_by Relative selector.now in
         (ns : List ℕ) → AreFoundBelowBy node css parsed ns →
-        Gives (λ numbers. numbers.items) (answer_by css (node_in node parsed) ns) result }
-    ensures told { result ≢ Err OutOfMemory → IsTold (wrong_in selector.now) place.new cause.new }
+        Gives (λ numbers. numbers.items) (answer_by css (tree_in node parsed) ns) result }
+    ensures told { result ≢ Err OutOfMemory →
+        IsTold (wrong_by Relative selector.now) place.new cause.new }
     ensures lost { result ≡ Err OutOfMemory → IsTold None place.new cause.new }
 {
-    let selector = read_selector(alloc, selector, place, cause)?;
+    let selector = read_selector(alloc, Reading::Relative, selector, place, cause)?;
     select_below(alloc, held, node, &selector)
 }
 
@@ -197,10 +268,31 @@ pub(crate) fn css_holds_at(
     ensures tells { let parsed = option_map (λ own. own.value) held.now in
         let css = css_in selector.now in
         (holds : Bool) → TellsAt node css parsed holds →
-        Gives (λ answer. answer) (answer_by css (node_in node parsed) (one_if holds)) result }
+        Gives (λ answer. answer) (answer_by css (tree_in node parsed) (one_if holds)) result }
     ensures told { result ≢ Err OutOfMemory → IsTold (wrong_in selector.now) place.new cause.new }
     ensures lost { result ≡ Err OutOfMemory → IsTold None place.new cause.new }
 {
-    let selector = read_selector(alloc, selector, place, cause)?;
+    let selector = read_selector(alloc, Reading::Whole, selector, place, cause)?;
     holds_at(alloc, held, node, &selector)
+}
+
+/// The number of the innermost element from a node on outwards where a selector holds.
+pub(crate) fn find_closest_css(
+    alloc: Global,
+    held: &Option<Box<ParsedPage>>,
+    node: u32,
+    selector: &[u8],
+    place: &mut usize,
+    cause: &mut u8,
+) -> Result<u32, Failure>
+    ensures finds { let parsed = option_map (λ own. own.value) held.now in
+        let css = css_in selector.now in
+        (n : Option ℕ) → IsClosestBy node css parsed n →
+        let outcome = found_or_refused (answer_by css (tree_in node parsed) n) in
+        Gives (λ number. number) outcome result }
+    ensures told { result ≢ Err OutOfMemory → IsTold (wrong_in selector.now) place.new cause.new }
+    ensures lost { result ≡ Err OutOfMemory → IsTold None place.new cause.new }
+{
+    let selector = read_selector(alloc, Reading::Whole, selector, place, cause)?;
+    innermost(alloc, held, node, &selector)
 }

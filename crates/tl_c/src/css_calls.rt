@@ -1,21 +1,20 @@
 //! The calls with selectors of CSS.
-ghost use Rattle.std.specs.Prelude.{◌≡◌, ◌≢◌, ℕ, Bool, List, None};
-ghost use Rattle.tl_spec.specs.Lex.ByteClass.{largest_u32};
-ghost use Rattle.tl_css_select.specs.Links.{one_if};
-ghost use Rattle.tl_c.specs.Css.{AreFoundBelowBy, AreFoundBy, IsTold, TellsAt, answer_by, css_in, first_of, wrong_in};
+ghost use Rattle.std.specs.Prelude.{◌≡◌, ◌≢◌, ℕ, Bool, List, None, Option};
+ghost use Rattle.tl_c.specs.Css.{AreFoundBelowBy, AreFoundBy, IsClosestBy, IsFirstBy, IsTold, TellsAt, answer_by, css_by, css_in, first_of, found_or_refused, wrong_by, wrong_in};
+ghost use Rattle.tl_c.specs.Queries.{one_if, tree_held, tree_in};
 ghost use Rattle.tl_c.specs.Puts.{Puts, PutsOne};
-ghost use Rattle.tl_c.specs.Queries.{node_in};
+ghost use Rattle.tl_c.specs.declared.css.Reading.TheVariants.{Relative};
+ghost use Rattle.tl_spec.specs.Lex.ByteClass.{largest_u32};
 
 use crate::copy_out::{copy_result, first, put_one};
-use crate::css::{css_holds_at, find_css, find_css_below};
+use crate::css::{css_holds_at, find_closest_css, find_css, find_css_below, find_first_css};
 use crate::document::Document;
-use crate::node_links::NO_NODE;
+use crate::held::NO_NODE;
 use std::alloc::Global;
 
-/// Finds the tags of a document where a selector of CSS holds: their numbers, in the order of the
-/// text. Names and values are compared decoded, as those of a page that was read by way of its
-/// form. A text that is no selector is refused: `place` is its first byte that is wrong, and
-/// `cause` the number of the cause in `tl.h`; else both are 0.
+/// Finds the elements of a document where a selector of CSS holds: their numbers, rising, without
+/// those in the contents of a `template`. A text that is no selector is refused: `place` is its
+/// first byte that is wrong, and `cause` the number of the cause in `tl.h`; else both are 0.
 #[unsafe(no_mangle)]
 pub extern "C" fn tl_select_css(
     alloc: Global,
@@ -28,10 +27,11 @@ pub extern "C" fn tl_select_css(
 ) -> u8
     ensures same { document.new.held ≡ document.old.held }
 
-    // By the numbers of the tags where it holds: these are one list.
+    // By the numbers of the elements where it holds: these are one list.
     ensures finds { (ns : List ℕ) → let css = css_in selector.now in
         AreFoundBy css document.old.held ns →
-        Puts (answer_by css document.old.held ns) numbers.old numbers.new needed.new result }
+        let outcome = answer_by css (tree_held document.old.held) ns in
+        Puts outcome numbers.old numbers.new needed.new result }
     ensures told { result ≢ 3 → IsTold (wrong_in selector.now) place.new cause.new }
     ensures lost { result ≡ 3 → IsTold None place.new cause.new }
 {
@@ -52,20 +52,24 @@ pub extern "C" fn tl_first_css(
     cause: &mut u8,
 ) -> u8
     ensures same { document.new.held ≡ document.old.held }
-    ensures finds { (ns : List ℕ) → let css = css_in selector.now in
-        AreFoundBy css document.old.held ns →
-        PutsOne (first_of (answer_by css document.old.held ns)) largest_u32 number.new result }
+
+    // By the first element where it holds, if there is one.
+    ensures finds { (n : Option ℕ) → let css = css_in selector.now in
+        IsFirstBy css document.old.held n →
+        let outcome = found_or_refused (answer_by css (tree_held document.old.held) n) in
+        PutsOne outcome largest_u32 number.new result }
     ensures told { result ≢ 3 → IsTold (wrong_in selector.now) place.new cause.new }
     ensures lost { result ≡ 3 → IsTold None place.new cause.new }
 {
     let held = document.replace(alloc, None);
-    let found = first(find_css(alloc, &held, selector, place, cause));
+    let found = find_first_css(alloc, &held, selector, place, cause);
     let _nothing = document.replace(alloc, held);
     put_one(found, NO_NODE, number)
 }
 
-/// The numbers of the tags below a node where a selector of CSS holds. It is asked of the whole
-/// document, so it may name what stands around the node. It is refused where there is no such node.
+/// The numbers of the elements below a node where a selector of CSS holds, which may begin with a
+/// combinator. It is asked of the whole document, from the node: so it may name what stands around
+/// that, and `:scope` is the node. It is refused where there is no such node.
 #[unsafe(no_mangle)]
 pub extern "C" fn tl_node_select_css(
     alloc: Global,
@@ -78,11 +82,11 @@ pub extern "C" fn tl_node_select_css(
     cause: &mut u8,
 ) -> u8
     ensures same { document.new.held ≡ document.old.held }
-    ensures finds { (ns : List ℕ) → let css = css_in selector.now in
+    ensures finds { (ns : List ℕ) → let css = css_by Relative selector.now in
         AreFoundBelowBy node css document.old.held ns →
-        let outcome = answer_by css (node_in node document.old.held) ns in
+        let outcome = answer_by css (tree_in node document.old.held) ns in
         Puts outcome numbers.old numbers.new needed.new result }
-    ensures told { result ≢ 3 → IsTold (wrong_in selector.now) place.new cause.new }
+    ensures told { result ≢ 3 → IsTold (wrong_by Relative selector.now) place.new cause.new }
     ensures lost { result ≡ 3 → IsTold None place.new cause.new }
 {
     let held = document.replace(alloc, None);
@@ -103,11 +107,11 @@ pub extern "C" fn tl_node_first_css(
     cause: &mut u8,
 ) -> u8
     ensures same { document.new.held ≡ document.old.held }
-    ensures finds { (ns : List ℕ) → let css = css_in selector.now in
+    ensures finds { (ns : List ℕ) → let css = css_by Relative selector.now in
         AreFoundBelowBy node css document.old.held ns →
-        let outcome = first_of (answer_by css (node_in node document.old.held) ns) in
+        let outcome = first_of (answer_by css (tree_in node document.old.held) ns) in
         PutsOne outcome largest_u32 number.new result }
-    ensures told { result ≢ 3 → IsTold (wrong_in selector.now) place.new cause.new }
+    ensures told { result ≢ 3 → IsTold (wrong_by Relative selector.now) place.new cause.new }
     ensures lost { result ≡ 3 → IsTold None place.new cause.new }
 {
     let held = document.replace(alloc, None);
@@ -131,7 +135,7 @@ pub extern "C" fn tl_node_matches_css(
     ensures same { document.new.held ≡ document.old.held }
     ensures tells { (holds : Bool) → let css = css_in selector.now in
         TellsAt node css document.old.held holds →
-        let outcome = answer_by css (node_in node document.old.held) (one_if holds) in
+        let outcome = answer_by css (tree_in node document.old.held) (one_if holds) in
         PutsOne outcome 0 matches.new result }
     ensures told { result ≢ 3 → IsTold (wrong_in selector.now) place.new cause.new }
     ensures lost { result ≡ 3 → IsTold None place.new cause.new }
@@ -140,4 +144,31 @@ pub extern "C" fn tl_node_matches_css(
     let holds = css_holds_at(alloc, &held, node, selector, place, cause);
     let _nothing = document.replace(alloc, held);
     put_one(holds, 0, matches)
+}
+
+/// The number of the innermost element where a selector of CSS holds, from a node on outwards.
+/// Where it holds at none, and where there is no such node, that is refused, and `number` is
+/// 4294967295.
+#[unsafe(no_mangle)]
+pub extern "C" fn tl_node_closest_css(
+    alloc: Global,
+    document: &mut Document,
+    node: u32,
+    selector: &[u8],
+    number: &mut u32,
+    place: &mut usize,
+    cause: &mut u8,
+) -> u8
+    ensures same { document.new.held ≡ document.old.held }
+    ensures finds { (n : Option ℕ) → let css = css_in selector.now in
+        IsClosestBy node css document.old.held n →
+        let outcome = found_or_refused (answer_by css (tree_in node document.old.held) n) in
+        PutsOne outcome largest_u32 number.new result }
+    ensures told { result ≢ 3 → IsTold (wrong_in selector.now) place.new cause.new }
+    ensures lost { result ≡ 3 → IsTold None place.new cause.new }
+{
+    let held = document.replace(alloc, None);
+    let found = find_closest_css(alloc, &held, node, selector, place, cause);
+    let _nothing = document.replace(alloc, held);
+    put_one(found, NO_NODE, number)
 }

@@ -1,51 +1,32 @@
 //! The calls with a document.
-ghost use Rattle.std.specs.Prelude.{◌≡◌, ◌≢◌, ◌<◌, IsSome, IsUtf8, None, Some, length};
-ghost use Rattle.tl_spec.specs.Select.Selector.{Selector};
-ghost use Rattle.tl_spec.specs.Select.Text.{IsSelectorText};
-ghost use Rattle.tl_page.specs.Outcome.{not_understood, success};
-ghost use Rattle.tl_page.specs.Page.{document_in};
-ghost use Rattle.tl_extract.specs.Field.{IsNoSelector};
-ghost use Rattle.tl_c.specs.Forms.{of_form};
-ghost use Rattle.tl_c.specs.Puts.{Puts, Reads};
-ghost use Rattle.tl_c.specs.Queries.{numbers_in, outcome_of_some, value_in};
+ghost use Rattle.std.specs.Prelude.{◌≡◌, ◌≢◌, ◌<◌, false, length, IsUtf8, None};
+ghost use Rattle.tl_c.specs.Queries.{AreTrees, is_quirks_held, one_if, outcome_of_some, rows_held};
+ghost use Rattle.tl_c.specs.Puts.{Puts};
+ghost use Rattle.tl_c.specs.Readings.{Reads};
+ghost use Rattle.tl_dom_spec.specs.HtmlForest.{HtmlForest};
+ghost use Rattle.tl_html_print.specs.Serialized.{serialized};
+ghost use Rattle.tl_page.specs.Outcome.{success};
 
-use crate::copy_out::{copy_result, copy_value};
+use crate::copy_out::copy_result;
 use crate::document::Document;
-use crate::page::{parse, parse_html};
-use crate::query::{find, value};
+use crate::held::{count, is_quirks, one_if};
+use crate::markup::document_markup;
+use crate::reading::read;
 use std::alloc::Global;
 
-/// Reads a copy of a page into a document. What it held before is given back.
-#[unsafe(no_mangle)]
-pub extern "C" fn tl_parse(alloc: Global, page: &[u8], document: &mut Document) -> u8
-    ensures reads { Reads (document_in page.now) document.old.held document.new.held result }
-
-    // A page that has no document is refused before any memory is taken.
-    ensures refused { document_in page.now ≡ not_understood → result ≡ 2 }
-{
-    match parse(alloc, page) {
-        Ok(read) => {
-            let _before = document.replace(alloc, Some(read));
-            0
-        }
-        Err(failure) => failure as u8,
-    }
-}
-
-/// Reads a page into a document as browsers read it, by way of its form. What the document held
-/// before is given back.
+/// Reads a copy of a page into a document, as browsers read it without scripts: the document holds
+/// its tree. What the document held before is given back.
 #[unsafe(no_mangle)]
 pub extern "C" fn tl_parse_html(alloc: Global, page: &[u8], document: &mut Document) -> u8
-    ensures reads { let read = of_form document_in page.now in
-        Reads read document.old.held document.new.held result }
+    ensures reads { Reads page.now document.old.held document.new.held result }
 
     // No want of memory hides that a page is no text, or too long.
     ensures no_text { ¬ (IsUtf8 page.now) → result ≡ 2 }
     ensures long { u32.MAX < length page.now → result ≡ 2 }
 {
-    match parse_html(alloc, page) {
-        Ok(html) => {
-            let _before = document.replace(alloc, Some(html));
+    match read(alloc, page) {
+        Ok(read) => {
+            let _before = document.replace(alloc, Some(read));
             0
         }
         Err(failure) => failure as u8,
@@ -60,54 +41,49 @@ pub extern "C" fn tl_free(alloc: Global, document: &mut Document)
     let _before = document.replace(alloc, None);
 }
 
-/// Finds the nodes of a document where a selector holds: their numbers, in the order of the text. A
-/// text that is no selector is refused.
+/// How many nodes a document has: none where there is no document.
 #[unsafe(no_mangle)]
-pub extern "C" fn tl_find(
-    alloc: Global,
-    document: &mut Document,
-    selector: &[u8],
-    numbers: &mut [u32],
-    needed: &mut usize,
-) -> u8
+pub extern "C" fn tl_node_count(alloc: Global, document: &mut Document) -> u32
     ensures same { document.new.held ≡ document.old.held }
-    ensures finds { (e : Selector) → IsSelectorText selector.now e →
-        let outcome = numbers_in selector.now (Some e) document.old.held in
-        Puts outcome numbers.old numbers.new needed.new result }
-    ensures no_selector { IsNoSelector selector.now →
-        let outcome = numbers_in selector.now None document.old.held in
-        Puts outcome numbers.old numbers.new needed.new result }
-
-    // Without a document, or with a selector that is no text, it takes no memory.
-    ensures none { document.old.held ≡ None → result ≡ 1 }
-    ensures no_text { IsSome document.old.held → ¬ (IsUtf8 selector.now) → result ≡ 2 }
+    ensures count { result ≡ length (rows_held document.old.held) }
 {
     let held = document.replace(alloc, None);
-    let found = find(alloc, &held, selector);
+    let count = count(&held);
     let _nothing = document.replace(alloc, held);
-    copy_result(found, numbers, needed)
+    count
 }
 
-/// The value of a node at a key. It is refused where the node has none, and where there is no such
-/// node.
+/// 1 where a document is in quirks mode; 0 where it isn't, and where there is no document.
 #[unsafe(no_mangle)]
-pub extern "C" fn tl_attribute(
+pub extern "C" fn tl_is_quirks(alloc: Global, document: &mut Document) -> u8
+    ensures same { document.new.held ≡ document.old.held }
+    ensures quirks { result ≡ one_if (is_quirks_held document.old.held) }
+{
+    let held = document.replace(alloc, None);
+    let is_quirks = one_if(is_quirks(&held));
+    let _nothing = document.replace(alloc, held);
+    is_quirks
+}
+
+/// The whole page as markup. It is refused where there is no document.
+#[unsafe(no_mangle)]
+pub extern "C" fn tl_document_html(
     alloc: Global,
     document: &mut Document,
-    node: u32,
-    key: &[u8],
     out: &mut [u8],
     needed: &mut usize,
 ) -> u8
     ensures same { document.new.held ≡ document.old.held }
-    ensures put { let outcome = outcome_of_some success (value_in node key.now document.old.held) in
+    ensures put { (trees : HtmlForest) → AreTrees document.old.held trees →
+        let print = success (serialized false None trees) in
+        let outcome = outcome_of_some (λ _. print) document.old.held in
         Puts outcome out.old out.new needed.new result }
 
-    // It takes no memory.
-    ensures memory { result ≢ 3 }
+    // Without a document it takes no memory.
+    ensures none { document.old.held ≡ None → result ≡ 1 }
 {
     let held = document.replace(alloc, None);
-    let status = copy_value(value(&held, node, key), out, needed);
+    let written = document_markup(alloc, &held);
     let _nothing = document.replace(alloc, held);
-    status
+    copy_result(written, out, needed)
 }

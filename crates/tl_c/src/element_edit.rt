@@ -7,7 +7,7 @@ ghost use Rattle.tl_patch_select.specs.declared.edit_error.SelectionEditError.Th
 ghost use Rattle.tl_c.specs.Css.{IsTold, IsUnasked, wrong_in};
 ghost use Rattle.tl_c.specs.Edits.{IsEditRefusal, IsEditRefused, IsEditedIf, content_of_number, number_of_edit_error, patch_of_number, place_of_edit_error, placed_of_number};
 
-use crate::css::read_selector;
+use crate::css::{Reading, read_selector};
 use crate::text::text_of;
 use std::alloc::Global;
 use tl_page::Failure;
@@ -103,7 +103,7 @@ pub(crate) fn edit_elements(
         IsUnasked selector.now (patch_of_number number form content.now) page.now }
     ensures failure { result ≢ Err Fault }
 {
-    let selector = read_selector(alloc, selector, place, cause)?;
+    let selector = read_selector(alloc, Reading::Whole, selector, place, cause)?;
     let Some(patch) = patch_of(number, form, content) else {
         return Err(Failure::NotUnderstood);
     };

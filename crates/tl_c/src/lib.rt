@@ -2,26 +2,25 @@
 //! owes.
 #![tactic(auto)]
 
+mod attribute;
 mod copy_out;
 mod css;
 mod css_calls;
-mod decode;
-mod decode_calls;
 mod document;
 mod document_calls;
 mod element_edit;
+mod held;
 mod lent_lists;
+mod markup;
 mod node;
 mod node_calls;
-mod node_links;
 mod own_policy;
 mod page;
 mod page_calls;
 mod parsed_page;
-mod part;
 mod patch;
 mod policy;
-mod query;
+mod position;
 mod raw_box;
-mod selection;
+mod reading;
 mod text;

@@ -1,26 +1,22 @@
 //! Policies of lists that C lends.
-ghost use Rattle.std.specs.Prelude.{◌≡◌, ◌≢◌, ◌<◌, length, Err, IfErr, IfOk, IsUtf8, is_ok, string_bytes};
-ghost use Rattle.tl_spec.specs.Print.Normal.{norm};
-ghost use Rattle.tl_html_spec.specs.HtmlForm.{html_form};
-ghost use Rattle.tl_html_spec.specs.HtmlTokenizer.{tokens_in_page};
-ghost use Rattle.tl_safe.specs.ListOptions.{lists_in, text_of};
-ghost use Rattle.tl_safe.specs.Filter.{trees_of};
-ghost use Rattle.tl_safe.specs.IsSafe.{IsSafe, tokens_of};
-ghost use Rattle.tl_safe.specs.KeptFitted.{kept_fitted};
-ghost use Rattle.tl_safe.specs.Lists.{ListedWords};
-ghost use Rattle.tl_safe.specs.Policies.{lists_of};
-ghost use Rattle.tl_safe.specs.Refusals.{are_lawful, first_refusal};
+ghost use Rattle.std.specs.Prelude.{◌≡◌, ◌≢◌, ◌<◌, length, Err, IfErr, IfOk, IsUtf8, is_ok};
+ghost use Rattle.tl_tree_safe.specs.ListOptions.{lists_in, text_of};
+ghost use Rattle.tl_tree_safe.specs.Lists.{ListedWords};
+ghost use Rattle.tl_tree_safe.specs.OfPolicy.{lists_of};
+ghost use Rattle.tl_tree_safe.specs.Refusals.{are_lawful, first_refusal};
 ghost use Rattle.tl_page.specs.Outcome.{Gives, success};
 ghost use Rattle.tl_page.specs.declared.failure.Failure.TheVariants.{NotUnderstood, OutOfMemory, Refused};
 ghost use Rattle.tl_c.specs.LentLists.{is_text, kept_lawful, kept_with, lent_lists, lists_in_texts, number_of_reason, number_of_refusal, refusal_in, refused_word, said_text};
+ghost use Rattle.tl_c.specs.SafePages.{IsSafe};
+ghost use Rattle.tl_html_spec.specs.HtmlTokenizer.{without_mark};
 
 use crate::lent_lists::{LentList, LentLists};
-use crate::page::safe_html_page;
+use crate::page::safe_page;
 use crate::policy::policy_of;
 use crate::text::text_of;
 use std::alloc::Global;
 use tl_page::{Failure, text};
-use tl_safe::{ListTexts, Policy, Reason, WordLists};
+use tl_tree_safe::{ListTexts, Policy, Reason, WordLists};
 
 // The number of a reason in `tl.h`.
 fn number_of_reason(reason: Reason) -> u8
@@ -39,6 +35,11 @@ fn number_of_reason(reason: Reason) -> u8
         Reason::NoScheme => 10,
         Reason::MalformedPrefix => 11,
         Reason::UnlistedMark => 12,
+        Reason::NoTableBody => 13,
+        Reason::NoRow => 14,
+        Reason::NoCell => 15,
+        Reason::NoCaption => 16,
+        Reason::NoTable => 17,
     }
 }
 
@@ -98,42 +99,37 @@ fn lawful_policy<'w>(words: &'w WordLists<'_>, cause: &mut u8) -> Result<Policy<
     }
 }
 
-// What the policy of lists keeps of the form of a page, printed.
+// What the policy of lists keeps of a page, printed.
 fn page_by_words(
     alloc: Global,
     words: &WordLists<'_>,
     page: &[u8],
     cause: &mut u8,
-) -> Result<String, Failure>
-    ensures gives { Gives string_bytes (kept_lawful (lists_in words.now) page.now) result }
-    ensures form { IfOk result (λ safe. IsSafe (lists_in words.now) (string_bytes safe)) }
-    ensures standard { IfOk result (λ safe. tokens_in_page (string_bytes safe)
-        ≡ tokens_of (norm (kept_fitted (lists_in words.now) (trees_of (html_form page.now))))) }
+) -> Result<Vec<u8>, Failure>
+    ensures gives { let kept = kept_lawful (lists_in words.now) page.now in
+        Gives (λ safe. safe.items) kept result }
+    ensures safe { IfOk result (λ safe.
+        IsSafe (lists_in words.now) (without_mark page.now) safe.items) }
     ensures told { cause.new ≡ number_of_refusal (first_refusal (lists_in words.now)) }
     ensures lawful { result ≢ Err Refused → cause.new ≡ 0 }
 {
     let policy = lawful_policy(words, cause)?;
-    safe_html_page(alloc, &policy, page)
+    safe_page(alloc, &policy, page)
 }
 
-/// What the policy of lists keeps of the form of a page, printed. Lists that are no policy are
-/// refused, and it says the number of why; else 0.
-pub(crate) fn html_page_with(
+/// What the policy of lists keeps of a page, printed. Lists that are no policy are refused, and it
+/// says the number of why; else 0.
+pub(crate) fn safe_page_with(
     alloc: Global,
     lists: &LentLists<'_>,
     page: &[u8],
     cause: &mut u8,
-) -> Result<String, Failure>
-    ensures gives { Gives string_bytes (kept_with lists.now page.now) result }
+) -> Result<Vec<u8>, Failure>
+    ensures gives { Gives (λ safe. safe.items) (kept_with lists.now page.now) result }
     ensures no_text { ¬ (IsUtf8 page.now) → result ≡ Err NotUnderstood }
     ensures long { u32.MAX < length page.now → result ≡ Err NotUnderstood }
-
-    // As `sanitize` says of a text.
-    ensures form { (p : ListedWords) → lent_lists lists.now ≡ success p
-        → IfOk result (λ safe. IsSafe p (string_bytes safe)) }
-    ensures standard { (p : ListedWords) → lent_lists lists.now ≡ success p
-        → IfOk result (λ safe. tokens_in_page (string_bytes safe)
-        ≡ tokens_of (norm (kept_fitted p (trees_of (html_form page.now))))) }
+    ensures safe { (p : ListedWords) → lent_lists lists.now ≡ success p
+        → IfOk result (λ safe. IsSafe p (without_mark page.now) safe.items) }
     ensures told { result ≡ Err Refused
         → cause.new ≡ number_of_refusal (refusal_in (lent_lists lists.now)) }
     ensures lawful { result ≢ Err Refused → cause.new ≡ 0 }

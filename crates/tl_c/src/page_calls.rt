@@ -1,122 +1,30 @@
 //! The calls with a page.
 ghost use Rattle.std.specs.Prelude.{◌≡◌, ◌≢◌, ◌<◌, length, IsSome, None, Some, IsUtf8, take};
-ghost use Rattle.tl_spec.specs.Print.Normal.{norm};
-ghost use Rattle.tl_spec.specs.Select.Selector.{Selector};
-ghost use Rattle.tl_spec.specs.Select.Text.{IsSelectorText};
-ghost use Rattle.tl_html_spec.specs.HtmlForm.{html_form};
-ghost use Rattle.tl_html_spec.specs.HtmlTokenizer.{tokens_in_page};
-ghost use Rattle.tl_safe.specs.IsSafe.{IsSafe, tokens_of};
-ghost use Rattle.tl_safe.specs.Filter.{trees_of};
-ghost use Rattle.tl_safe.specs.KeptFitted.{kept_fitted};
-ghost use Rattle.tl_safe.specs.Lists.{ListedWords, blog_lists};
+ghost use Rattle.tl_tree_safe.specs.Lists.{ListedWords};
+ghost use Rattle.tl_tree_safe.specs.OwnLists.{blog_lists};
 ghost use Rattle.tl_page.specs.Outcome.{success};
-ghost use Rattle.tl_extract.specs.Field.{IsNoSelector};
-ghost use Rattle.tl_program.specs.Action.{Prints, Texts};
-ghost use Rattle.tl_program.specs.Output.{output_of};
 ghost use Rattle.tl_c.specs.Css.{IsTold, IsUnasked, wrong_in};
 ghost use Rattle.tl_c.specs.Edits.{IsEditRefused, PutsEdited, patch_of_number};
-ghost use Rattle.tl_c.specs.Forms.{of_form};
 ghost use Rattle.tl_c.specs.LentLists.{kept_with, lent_lists, number_of_refusal, refusal_in, refused_word};
-ghost use Rattle.tl_c.specs.Pages.{edited_page, safe_page, selection};
 ghost use Rattle.tl_c.specs.Patches.{IsPatchRefused, PutsPatched, change_of_number};
 ghost use Rattle.tl_c.specs.Policies.{kept_by, lists_of_number};
 ghost use Rattle.tl_c.specs.Puts.{Puts};
+ghost use Rattle.tl_c.specs.SafePages.{IsSafe, kept_page};
+ghost use Rattle.tl_html_spec.specs.HtmlTokenizer.{without_mark};
 
-use crate::copy_out::{copy_items, copy_result, copy_text};
+use crate::copy_out::{copy_items, copy_result};
 use crate::element_edit::edit_elements;
 use crate::lent_lists::LentLists;
-use crate::own_policy::{html_page_with, word_refused};
-use crate::page::{edit, safe_html_page, safe_page};
+use crate::own_policy::{safe_page_with, word_refused};
+use crate::page::safe_page;
 use crate::patch::patch;
-use crate::policy::html_page_by;
-use crate::selection::select;
+use crate::policy::safe_page_by;
 use std::alloc::Global;
 use tl_page::VERSION;
-use tl_program::program::{Command, output};
-use tl_safe::Policy;
+use tl_tree_safe::Policy;
 
-/// Prints a page as it was read, as `tlq print` does.
-#[unsafe(no_mangle)]
-pub extern "C" fn tl_print(alloc: Global, page: &[u8], out: &mut [u8], needed: &mut usize) -> u8
-    ensures put { Puts (output_of Prints None page.now) out.old out.new needed.new result }
-
-    // No want of memory hides that a page is no text, or too long.
-    ensures no_text { ¬ (IsUtf8 page.now) → result ≡ 2 }
-    ensures long { u32.MAX < length page.now → result ≡ 2 }
-{
-    copy_text(output(alloc, &Command::Print, page), out, needed)
-}
-
-/// Writes the texts of a page in order, as `tlq text` does.
-#[unsafe(no_mangle)]
-pub extern "C" fn tl_text(alloc: Global, page: &[u8], out: &mut [u8], needed: &mut usize) -> u8
-    ensures put { Puts (output_of Texts None page.now) out.old out.new needed.new result }
-
-    // No want of memory hides that a page is no text, or too long.
-    ensures no_text { ¬ (IsUtf8 page.now) → result ≡ 2 }
-    ensures long { u32.MAX < length page.now → result ≡ 2 }
-{
-    copy_text(output(alloc, &Command::Text, page), out, needed)
-}
-
-/// Prints a page after the steps that lines say, as `tlq edit` does. Lines that say no steps are
-/// not understood.
-#[unsafe(no_mangle)]
-pub extern "C" fn tl_edit(
-    alloc: Global,
-    steps: &[u8],
-    page: &[u8],
-    out: &mut [u8],
-    needed: &mut usize,
-) -> u8
-    ensures { Puts (edited_page steps.now page.now) out.old out.new needed.new result }
-{
-    copy_text(edit(alloc, steps, page), out, needed)
-}
-
-/// Writes what is asked of each node of a page where a selector holds, in order, with a byte 0
-/// after each: its number (0), its print (1), the print of what is inside (2), the texts at or
-/// below it (3), or its value at a key (4), where it has one. Another number is not understood, and
-/// a text that is no selector is refused.
-#[unsafe(no_mangle)]
-pub extern "C" fn tl_select(
-    alloc: Global,
-    selector: &[u8],
-    field: u8,
-    key: &[u8],
-    page: &[u8],
-    out: &mut [u8],
-    needed: &mut usize,
-) -> u8
-    ensures selects { (e : Selector) → IsSelectorText selector.now e →
-        let outcome = selection selector.now (Some e) field key.entry page.now in
-        Puts outcome out.old out.new needed.new result }
-    ensures no_selector { IsNoSelector selector.now →
-        let outcome = selection selector.now None field key.entry page.now in
-        Puts outcome out.old out.new needed.new result }
-{
-    copy_text(select(alloc, selector, field, key, page), out, needed)
-}
-
-/// Prints what the policy for the text of a blog keeps of a page.
-#[unsafe(no_mangle)]
-pub extern "C" fn tl_sanitize(alloc: Global, page: &[u8], out: &mut [u8], needed: &mut usize) -> u8
-    ensures put { Puts (safe_page page.now) out.old out.new needed.new result }
-
-    // As `sanitize` says of what it prints.
-    ensures form { result ≡ 0 → IsSafe blog_lists (take needed.new out.new) }
-    ensures standard { result ≡ 0 → tokens_in_page (take needed.new out.new)
-        ≡ tokens_of (norm (kept_fitted blog_lists (trees_of page.now))) }
-
-    // No want of memory hides that a page is no text, or too long.
-    ensures no_text { ¬ (IsUtf8 page.now) → result ≡ 2 }
-    ensures long { u32.MAX < length page.now → result ≡ 2 }
-{
-    copy_text(safe_page(alloc, &Policy::blog(), page), out, needed)
-}
-
-/// Prints what the policy for the text of a blog keeps of a page that is read as browsers read it,
-/// by way of its form.
+/// Prints what the policy for the text of a blog keeps of a page, which is read as browsers read
+/// it: as what a `div` holds.
 #[unsafe(no_mangle)]
 pub extern "C" fn tl_sanitize_html(
     alloc: Global,
@@ -124,23 +32,21 @@ pub extern "C" fn tl_sanitize_html(
     out: &mut [u8],
     needed: &mut usize,
 ) -> u8
-    ensures put { Puts (of_form safe_page page.now) out.old out.new needed.new result }
+    ensures put { Puts (kept_page blog_lists page.now) out.old out.new needed.new result }
 
-    // As `sanitize` says of what it prints.
-    ensures form { result ≡ 0 → IsSafe blog_lists (take needed.new out.new) }
-    ensures standard { result ≡ 0 → tokens_in_page (take needed.new out.new)
-        ≡ tokens_of (norm (kept_fitted blog_lists (trees_of (html_form page.now)))) }
+    // As `sanitize_fragment` says of what it prints.
+    ensures safe { result ≡ 0 →
+        IsSafe blog_lists (without_mark page.now) (take needed.new out.new) }
 
     // No want of memory hides that a page is no text, or too long.
     ensures no_text { ¬ (IsUtf8 page.now) → result ≡ 2 }
     ensures long { u32.MAX < length page.now → result ≡ 2 }
 {
-    copy_text(safe_html_page(alloc, &Policy::blog(), page), out, needed)
+    copy_result(safe_page(alloc, &Policy::blog(), page), out, needed)
 }
 
-/// Prints what the policy of a number keeps of a page that is read as browsers read it: that for
-/// the text of a blog (0), for comments of readers (1), or for documents (2). Another number is not
-/// understood.
+/// Prints what the policy of a number keeps of a page: that for the text of a blog (0), for
+/// comments of readers (1), or for documents (2). Another number is not understood.
 #[unsafe(no_mangle)]
 pub extern "C" fn tl_sanitize_html_by(
     alloc: Global,
@@ -152,23 +58,20 @@ pub extern "C" fn tl_sanitize_html_by(
     ensures put { let kept = kept_by (lists_of_number policy) page.now in
         Puts kept out.old out.new needed.new result }
 
-    // As `sanitize` says of what it prints.
-    ensures form { (p : ListedWords) → lists_of_number policy ≡ Some p → result ≡ 0
-        → IsSafe p (take needed.new out.new) }
-    ensures standard { (p : ListedWords) → lists_of_number policy ≡ Some p → result ≡ 0
-        → tokens_in_page (take needed.new out.new)
-        ≡ tokens_of (norm (kept_fitted p (trees_of (html_form page.now)))) }
+    // As `sanitize_fragment` says of what it prints.
+    ensures safe { (p : ListedWords) → lists_of_number policy ≡ Some p → result ≡ 0
+        → IsSafe p (without_mark page.now) (take needed.new out.new) }
 
     // No want of memory hides that there is no such policy, or that a page is no text, or too long.
     ensures no_policy { lists_of_number policy ≡ None → result ≡ 2 }
     ensures no_text { ¬ (IsUtf8 page.now) → result ≡ 2 }
     ensures long { u32.MAX < length page.now → result ≡ 2 }
 {
-    copy_text(html_page_by(alloc, policy, page), out, needed)
+    copy_result(safe_page_by(alloc, policy, page), out, needed)
 }
 
-/// Prints what a policy of lists that are lent keeps of a page that is read as browsers read it.
-/// Lists that are no policy are refused: `cause` is the number of why in `tl.h`, and else 0.
+/// Prints what a policy of lists that are lent keeps of a page. Lists that are no policy are
+/// refused: `cause` is the number of why in `tl.h`, and else 0.
 #[unsafe(no_mangle)]
 pub extern "C" fn tl_sanitize_html_with(
     alloc: Global,
@@ -180,12 +83,9 @@ pub extern "C" fn tl_sanitize_html_with(
 ) -> u8
     ensures put { Puts (kept_with lists.now page.now) out.old out.new needed.new result }
 
-    // As `sanitize` says of what it prints.
-    ensures form { (p : ListedWords) → lent_lists lists.now ≡ success p → result ≡ 0
-        → IsSafe p (take needed.new out.new) }
-    ensures standard { (p : ListedWords) → lent_lists lists.now ≡ success p → result ≡ 0
-        → tokens_in_page (take needed.new out.new)
-        ≡ tokens_of (norm (kept_fitted p (trees_of (html_form page.now)))) }
+    // As `sanitize_fragment` says of what it prints.
+    ensures safe { (p : ListedWords) → lent_lists lists.now ≡ success p → result ≡ 0
+        → IsSafe p (without_mark page.now) (take needed.new out.new) }
 
     // Why the lists are no policy.
     ensures told { result ≡ 1
@@ -196,7 +96,7 @@ pub extern "C" fn tl_sanitize_html_with(
     ensures no_text { ¬ (IsUtf8 page.now) → result ≡ 2 }
     ensures long { u32.MAX < length page.now → result ≡ 2 }
 {
-    copy_text(html_page_with(alloc, lists, page, cause), out, needed)
+    copy_result(safe_page_with(alloc, lists, page, cause), out, needed)
 }
 
 /// Writes the first word for which lists that are lent are no policy; `cause` is the number of why

@@ -1,9 +1,9 @@
 //! What a document of C holds.
 
-use tl_css_select::known_forest::FreshGuard;
+use tl_tree::Tree;
 
-/// A page as it was read.
+/// The tree of a page that was read, with a copy of the page.
 #[derive(Drop)]
 pub struct ParsedPage {
-    pub(crate) document: FreshGuard,
+    pub(crate) tree: Tree<'static>,
 }

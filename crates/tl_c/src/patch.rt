@@ -7,7 +7,7 @@ ghost use Rattle.tl_patch_select.specs.declared.error.SelectionPatchError.TheVar
 ghost use Rattle.tl_c.specs.Css.{IsTold, IsUnasked, wrong_in};
 ghost use Rattle.tl_c.specs.Patches.{IsChangeRefusal, IsPatchRefused, IsPatchedIf, change_of_number, number_of_patch_error, place_of_patch_error};
 
-use crate::css::read_selector;
+use crate::css::{Reading, read_selector};
 use crate::text::text_of;
 use std::alloc::Global;
 use tl_page::Failure;
@@ -70,7 +70,7 @@ pub(crate) fn patch(
         IsUnasked selector.now (change_of_number number key.now value.now) page.now }
     ensures failure { result ≢ Err Fault }
 {
-    let selector = read_selector(alloc, selector, place, cause)?;
+    let selector = read_selector(alloc, Reading::Whole, selector, place, cause)?;
     let Some(change) = change_of(number, key, value) else {
         return Err(Failure::NotUnderstood);
     };

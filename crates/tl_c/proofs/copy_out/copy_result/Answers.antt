@@ -2,6 +2,7 @@ use Rattle.std.proofs.Common.{◌≡◌, Err, ap, subst, sym, ◌∙◌}
 use Rattle.tl_page.specs.Outcome.{success}
 use Rattle.tl_page.specs.declared.failure.Failure.TheVariants.{NotUnderstood, OutOfMemory, Refused}
 use Rattle.tl_c.specs.Puts.{Puts}
+use Rattle.tl_c.proofs.Room.{put_front}
 use Rattle.tl_c.proofs.copy_out.copy_result.Goals as goal
 
 pub returns-in-Ok-clause-put : goal.returns-in-Ok-clause-put
@@ -53,3 +54,11 @@ returns-in-Err-clause-not_understood g c = (
 pub returns-in-Ok-clause-not_understood : goal.returns-in-Ok-clause-not_understood
 returns-in-Ok-clause-not_understood g c =
     (λ two. absurd (c.copy_items.ensures.understood two), λ lost. let is = c.in-Ok.is in absurd (cc))
+
+pub returns-in-Ok-clause-items : goal.returns-in-Ok-clause-items
+returns-in-Ok-clause-items g c = λ is_done.
+    rw c.in-Ok.is
+    (put_front _ c.args.out.now c.copy_items.new.out c.copy_items.new.needed c.copy_items.result c.copy_items.ensures.put is_done ∙ c.as_slice.ensures.value)
+
+pub returns-in-Err-clause-items : goal.returns-in-Err-clause-items
+returns-in-Err-clause-items g c = λ is_done. absurd (c.report_failure.ensures.failed is_done)

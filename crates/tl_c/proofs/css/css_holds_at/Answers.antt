@@ -1,10 +1,9 @@
 use Rattle.std.proofs.Common.{◌≡◌, ◌∙◌, Err, ap, rules, subst, sym}
 use Rattle.std.specs.Option.{option_map}
-use Rattle.tl_css_select.specs.Links.{one_if}
 use Rattle.tl_page.specs.Outcome.{Gives}
 use Rattle.tl_page.specs.declared.failure.Failure.TheVariants.{OutOfMemory}
 use Rattle.tl_c.specs.Css.{css_in, answer_by}
-use Rattle.tl_c.specs.Queries.{node_in}
+use Rattle.tl_c.specs.Queries.{one_if, tree_in}
 use Rattle.tl_c.proofs.Selectors.{answer_by-unread}
 use Rattle.tl_c.proofs.css.css_holds_at.Goals as goal
 
@@ -13,8 +12,8 @@ returns-in_err-selector-clause-tells c = λ holds tells.
     let parsed = option_map (λ own. own.value) c.args.held.now in
     let failure = c.in_err-selector.field-0.0 in
     let is : c.from_residual.result ≡ Err failure = search rules in
-    subst (Gives (λ answer. answer) (answer_by (css_in c.args.selector.now) (node_in c.args.node parsed) (one_if holds))) (sym is)
-    (answer_by-unread (css_in c.args.selector.now) (node_in c.args.node parsed) (one_if holds) failure c.in_err-selector.ensures.reads)
+    subst (Gives (λ answer. answer) (answer_by (css_in c.args.selector.now) (tree_in c.args.node parsed) (one_if holds))) (sym is)
+    (answer_by-unread (css_in c.args.selector.now) (tree_in c.args.node parsed) (one_if holds) failure c.in_err-selector.ensures.reads)
 
 pub returns-in_err-selector-clause-told : goal.returns-in_err-selector-clause-told
 returns-in_err-selector-clause-told c = λ other.

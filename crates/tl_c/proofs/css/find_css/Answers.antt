@@ -3,6 +3,7 @@ use Rattle.std.specs.Option.{option_map}
 use Rattle.tl_page.specs.Outcome.{Gives}
 use Rattle.tl_page.specs.declared.failure.Failure.TheVariants.{OutOfMemory}
 use Rattle.tl_c.specs.Css.{css_in, answer_by}
+use Rattle.tl_c.specs.Queries.{tree_held}
 use Rattle.tl_c.proofs.Selectors.{answer_by-unread}
 use Rattle.tl_c.proofs.css.find_css.Goals as goal
 
@@ -11,8 +12,8 @@ returns-in_err-selector-clause-finds c = λ ns found.
     let parsed = option_map (λ own. own.value) c.args.held.now in
     let failure = c.in_err-selector.field-0.0 in
     let is : c.from_residual.result ≡ Err failure = search rules in
-    subst (Gives (λ numbers. numbers.items) (answer_by (css_in c.args.selector.now) parsed ns)) (sym is)
-    (answer_by-unread (css_in c.args.selector.now) parsed ns failure c.in_err-selector.ensures.reads)
+    subst (Gives (λ numbers. numbers.items) (answer_by (css_in c.args.selector.now) (tree_held parsed) ns)) (sym is)
+    (answer_by-unread (css_in c.args.selector.now) (tree_held parsed) ns failure c.in_err-selector.ensures.reads)
 
 pub returns-in_err-selector-clause-told : goal.returns-in_err-selector-clause-told
 returns-in_err-selector-clause-told c = λ other.

@@ -2,8 +2,9 @@ use Rattle.std.proofs.Common.{◌≡◌, ◌∙◌, Err, ap, rules, subst, sym}
 use Rattle.std.specs.Option.{option_map}
 use Rattle.tl_page.specs.Outcome.{Gives}
 use Rattle.tl_page.specs.declared.failure.Failure.TheVariants.{OutOfMemory}
-use Rattle.tl_c.specs.Css.{css_in, answer_by}
-use Rattle.tl_c.specs.Queries.{node_in}
+use Rattle.tl_c.specs.Css.{css_by, answer_by}
+use Rattle.tl_c.specs.Queries.{tree_in}
+use Rattle.tl_c.specs.declared.css.Reading.TheVariants.{Relative}
 use Rattle.tl_c.proofs.Selectors.{answer_by-unread}
 use Rattle.tl_c.proofs.css.find_css_below.Goals as goal
 
@@ -12,8 +13,8 @@ returns-in_err-selector-clause-finds c = λ ns found.
     let parsed = option_map (λ own. own.value) c.args.held.now in
     let failure = c.in_err-selector.field-0.0 in
     let is : c.from_residual.result ≡ Err failure = search rules in
-    subst (Gives (λ numbers. numbers.items) (answer_by (css_in c.args.selector.now) (node_in c.args.node parsed) ns)) (sym is)
-    (answer_by-unread (css_in c.args.selector.now) (node_in c.args.node parsed) ns failure c.in_err-selector.ensures.reads)
+    subst (Gives (λ numbers. numbers.items) (answer_by (css_by Relative c.args.selector.now) (tree_in c.args.node parsed) ns)) (sym is)
+    (answer_by-unread (css_by Relative c.args.selector.now) (tree_in c.args.node parsed) ns failure c.in_err-selector.ensures.reads)
 
 pub returns-in_err-selector-clause-told : goal.returns-in_err-selector-clause-told
 returns-in_err-selector-clause-told c = λ other.

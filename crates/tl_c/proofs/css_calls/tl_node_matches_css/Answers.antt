@@ -1,8 +1,7 @@
 use Rattle.std.proofs.Common.{subst, sym}
-use Rattle.tl_css_select.specs.Links.{one_if}
 use Rattle.tl_page.specs.Outcome.{Gives}
 use Rattle.tl_c.specs.Css.{TellsAt, answer_by, css_in}
-use Rattle.tl_c.specs.Queries.{node_in}
+use Rattle.tl_c.specs.Queries.{one_if, tree_in}
 use Rattle.tl_c.proofs.css_calls.tl_node_matches_css.Goals as goal
 
 pub returns-clause-tells : goal.returns-clause-tells
@@ -10,7 +9,7 @@ returns-clause-tells c = λ holds tells.
     let css = css_in c.args.selector.now in
     let node = c.args.node in
     c.put_one.ensures.put _
-    (subst (λ held. Gives (λ answer. answer) (answer_by css (node_in node held) (one_if holds)) c.css_holds_at-holds.result) c.replace-held.ensures.replaced
+    (subst (λ held. Gives (λ answer. answer) (answer_by css (tree_in node held) (one_if holds)) c.css_holds_at-holds.result) c.replace-held.ensures.replaced
     (c.css_holds_at-holds.ensures.tells holds (subst (λ held. TellsAt node css held holds) (sym c.replace-held.ensures.replaced) tells)))
 
 pub returns-clause-told : goal.returns-clause-told

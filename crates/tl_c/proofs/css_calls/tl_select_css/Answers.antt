@@ -1,13 +1,14 @@
 use Rattle.std.proofs.Common.{subst, sym}
 use Rattle.tl_page.specs.Outcome.{Gives}
 use Rattle.tl_c.specs.Css.{AreFoundBy, css_in, answer_by}
+use Rattle.tl_c.specs.Queries.{tree_held}
 use Rattle.tl_c.proofs.css_calls.tl_select_css.Goals as goal
 
 pub returns-clause-finds : goal.returns-clause-finds
 returns-clause-finds c = λ ns found.
     let css = css_in c.args.selector.now in
     c.copy_result.ensures.put _
-    (subst (λ held. Gives (λ numbers. numbers.items) (answer_by css held ns) c.find_css-found.result) c.replace-held.ensures.replaced
+    (subst (λ held. Gives (λ numbers. numbers.items) (answer_by css (tree_held held) ns) c.find_css-found.result) c.replace-held.ensures.replaced
     (c.find_css-found.ensures.finds ns (subst (λ held. AreFoundBy css held ns) (sym c.replace-held.ensures.replaced) found)))
 
 pub returns-clause-told : goal.returns-clause-told

@@ -1,7 +1,7 @@
 use Rattle.std.proofs.Common.{◌≡◌, ◌∙◌, None, Some, ap, sym}
 use Rattle.std.specs.Prelude.{is_none}
-use Rattle.tl_safe.specs.ListOptions.{lists_in}
-use Rattle.tl_safe.specs.Refusals.{first_refusal, refusal_of}
+use Rattle.tl_tree_safe.specs.ListOptions.{lists_in}
+use Rattle.tl_tree_safe.specs.Refusals.{first_refusal, refusal_of}
 use Rattle.tl_c.specs.LentLists.{number_of_refusal}
 use Rattle.tl_c.proofs.own_policy.lawful_policy.Goals as goal
 

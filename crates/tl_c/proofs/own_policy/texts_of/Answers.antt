@@ -1,9 +1,9 @@
 use Rattle.std.proofs.Common.{◌≡◌, ◌∙◌, None, Some, Err, ap, ap₂, rules, subst, sym}
 use Rattle.std.specs.Option.{option_map}
-use Rattle.tl_safe.specs.ListOptions.{lists_or_default}
+use Rattle.tl_tree_safe.specs.ListOptions.{lists_or_default}
 use Rattle.tl_page.specs.Outcome.{Gives, success}
 use Rattle.tl_page.specs.declared.failure.Failure.TheVariants.{NotUnderstood}
-use Rattle.tl_safe.specs.Policies.{lists_of}
+use Rattle.tl_tree_safe.specs.OfPolicy.{lists_of}
 use Rattle.tl_c.specs.LentLists.{lent_lists, lists_in_texts, lists_over, said_options}
 use Rattle.tl_c.specs.Policies.{lists_of_number}
 use Rattle.tl_c.proofs.Lent.{lent-texts, same-options, unread-tags, unread-keys, unread-link_keys, unread-link_prefixes, unread-id_prefix}

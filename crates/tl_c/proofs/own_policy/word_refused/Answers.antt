@@ -1,8 +1,8 @@
 use Rattle.std.proofs.Common.{◌≡◌, ◌∙◌, Err, ap, rules, subst, sym}
-use Rattle.tl_safe.specs.ListOptions.{lists_in}
+use Rattle.tl_tree_safe.specs.ListOptions.{lists_in}
 use Rattle.tl_page.specs.Outcome.{Gives, Outcome, not_understood, success}
 use Rattle.tl_page.specs.declared.failure.Failure.TheVariants.{NotUnderstood}
-use Rattle.tl_safe.specs.Lists.{ListedWords}
+use Rattle.tl_tree_safe.specs.Lists.{ListedWords}
 use Rattle.tl_c.specs.LentLists.{lent_lists, lists_in_texts, number_of_refusal, refusal_in, refused_word}
 use Rattle.tl_c.proofs.own_policy.word_refused.Goals as goal
 

@@ -1,7 +1,7 @@
 use Rattle.std.proofs.Common.{◌≡◌, ◌∙◌, None, Option, Some, ap, rules, sym}
-use Rattle.tl_safe.specs.ListOptions.{lists_in}
+use Rattle.tl_tree_safe.specs.ListOptions.{lists_in}
 use Rattle.tl_page.specs.Outcome.{success}
-use Rattle.tl_safe.specs.Refusals.{Refusal, first_refusal, refusal_of}
+use Rattle.tl_tree_safe.specs.Refusals.{Refusal, first_refusal, refusal_of}
 use Rattle.tl_c.specs.LentLists.{number_of_refusal}
 use Rattle.tl_c.specs.Queries.{outcome_of_some}
 use Rattle.tl_c.proofs.own_policy.word_refused_of.Goals as goal

@@ -1,26 +1,46 @@
-use Rattle.std.proofs.Common.{◌≡◌, rules, Err, ap, subst, sym, ◌∙◌, string_bytes}
-use Rattle.tl_spec.specs.Print.{print}
-use Rattle.tl_safe.specs.Filter.{trees_of}
-use Rattle.tl_safe.specs.KeptFitted.{kept_fitted}
-use Rattle.tl_safe.specs.Policies.{kept_fitted_of, lists_of}
-use Rattle.tl_page.specs.Outcome.{Gives, not_understood, success}
+use Rattle.std.proofs.Common.{Err, List, ap, rules, subst, sym, true, ℕ, ◌∙◌, ◌≡◌}
+use Rattle.tl_html_spec.specs.HtmlTokenizer.{without_mark}
+use Rattle.tl_page.specs.Outcome.{Fails, Gives, not_understood, success}
 use Rattle.tl_page.specs.declared.failure.Failure.TheVariants.{NotUnderstood}
-use Rattle.tl_page.proofs.Pages.{outcome-no_page, outcome-page}
-use Rattle.tl_c.specs.Pages.{kept_page}
+use Rattle.tl_tree_safe.specs.InDiv.{IsUnreadInDiv, is_in_proportion_in_div, safe_print}
+use Rattle.tl_tree_safe.specs.OfPolicy.{lists_of}
+use Rattle.tl_c.specs.SafePages.{IsSafe, kept_page}
+use Rattle.tl_c.proofs.SafePages.{kept-no_page, kept-read, kept-unread}
 use Rattle.tl_c.proofs.page.safe_page.Goals as goal
 
 pub returns-in_err-text-clause-gives : goal.returns-in_err-text-clause-gives
 returns-in_err-text-clause-gives c =
-    let page = c.args.page.now in
+    let page : List ℕ = c.args.page.now in
     let lists = lists_of c.args.policy.now in
-    let none : kept_page lists page ≡ not_understood =
-    outcome-no_page page (λ _. success (print (kept_fitted lists (trees_of page)))) (λ p. let ok = c.in_err-text.ensures.reads p in cc) in
+    let none : kept_page lists page ≡ not_understood = kept-no_page lists page (λ p. let ok = c.in_err-text.ensures.reads p in cc) in
     let is : c.from_residual.result ≡ Err NotUnderstood = search (rules, c.in_err-text.ensures.failure) in
-    subst (Gives string_bytes (kept_page lists page)) (sym is) none
+    subst (Gives (λ safe. safe.items) (kept_page lists page)) (sym is) none
 
-pub returns-clause-gives : goal.returns-clause-gives
-returns-clause-gives c =
-    let page = c.args.page.now in
-    outcome-page page (λ _. success (print (kept_fitted (lists_of c.args.policy.now) (trees_of page)))) c.in_ok-text.ensures.page
-    ∙ ap success (sym (c.in_ok-sanitize.ensures.prints
-    ∙ ap (λ text. print (kept_fitted_of c.args.policy.now text)) c.in_ok-text.ensures.text))
+pub returns-in-Ok-clause-gives : goal.returns-in-Ok-clause-gives
+returns-in-Ok-clause-gives c =
+    let page : List ℕ = c.args.page.now in
+    let lists = lists_of c.args.policy.now in
+    let text : List ℕ = c.without_mark.result.now in
+    let marked : text ≡ without_mark page = c.without_mark.ensures ∙ ap without_mark (c.as_bytes.ensures.value ∙ c.in_ok-text.ensures.text) in
+    let fits : is_in_proportion_in_div (without_mark page) ≡ true = subst (λ (t : List ℕ). is_in_proportion_in_div t ≡ true) marked c.in-Ok.ensures.in_proportion in
+    kept-read lists page c.in_ok-text.ensures.page fits
+    ∙ ap success (sym (c.in-Ok.ensures.print ∙ ap (safe_print lists) marked))
+
+pub returns-in-Ok-clause-safe : goal.returns-in-Ok-clause-safe
+returns-in-Ok-clause-safe c =
+    let page : List ℕ = c.args.page.now in
+    let lists = lists_of c.args.policy.now in
+    let text : List ℕ = c.without_mark.result.now in
+    let marked : text ≡ without_mark page = c.without_mark.ensures ∙ ap without_mark (c.as_bytes.ensures.value ∙ c.in_ok-text.ensures.text) in
+    let safe : IsSafe lists text c.in-Ok.safe.items = record { read = c.in-Ok.ensures.read; built = c.in-Ok.ensures.built; listed = c.in-Ok.ensures.listed } in
+    subst (λ (t : List ℕ). IsSafe lists t c.in-Ok.safe.items) marked safe
+
+pub returns-in-Err-clause-gives : goal.returns-in-Err-clause-gives
+returns-in-Err-clause-gives c =
+    let page : List ℕ = c.args.page.now in
+    let lists = lists_of c.args.policy.now in
+    let text : List ℕ = c.without_mark.result.now in
+    let marked : text ≡ without_mark page = c.without_mark.ensures ∙ ap without_mark (c.as_bytes.ensures.value ∙ c.in_ok-text.ensures.text) in
+    let told : IsUnreadInDiv (without_mark page) c.in-Err.error = subst (λ (t : List ℕ). IsUnreadInDiv t c.in-Err.error) marked c.in-Err.ensures.told in
+    subst (Fails (kept_page lists page)) (sym c.failure_of.ensures)
+    (kept-unread lists page c.in_ok-text.ensures.page c.in-Err.error told)

@@ -1,2 +1,0 @@
-/* tl_documents.h: all of it stands in tl.h. */
-#include "tl.h"
