@@ -15,9 +15,9 @@ import json
 import os
 import sys
 import tarfile
-from typing import Any, Callable, Iterator, NamedTuple, Optional
+from typing import Any, Callable, Iterator, NamedTuple
 
-from tlhtml import Document, Error, Node
+from tlhtml import Document, Error
 
 Row = dict[str, Any]
 # What has a text that readers don't see.
@@ -49,25 +49,26 @@ def is_page(name: str) -> bool:
 def texts(document: Document) -> Iterator[str]:
     """The texts that readers see. What has nothing hidden in it is asked as a whole."""
     hidden = document.select(HIDDEN)
-    numbers, above = {it.number for it in hidden}, set()
+    numbers = {it.number for it in hidden}
+    above: set[int] = set()
     for node in hidden:
-        at: Optional[Node] = node.parent
-        while at is not None and at.number not in above:
+        for at in node.parents:
+            if at.number in above:
+                break
             above.add(at.number)
-            at = at.parent
     left = list(document.children)[::-1]
     while left:
         node = left.pop()
         if node.number in above:
             left += list(node.children)[::-1]
-        elif node.number not in numbers:
+        elif node.number not in numbers and node.kind != "comment":
             yield node.text
 
 
 def asked(page: bytes) -> Row:
     """What is asked of a page."""
     with Document(page) as document:
-        title = document.first("title")
+        title = document.select_one("title")
         links = [it["href"] for it in document.select("a[href]")]
         return {"title": title and title.text.strip(), "links": links, "text": " ".join(" ".join(texts(document)).split())}
 

@@ -11,9 +11,9 @@ from tlhtml import Document, Error
 
 
 def has_place(document: Document, id: str) -> bool:
-    """Whether a tag of the document is the place that a link `#id` leads to."""
+    """Whether an element of the document is the place that a link `#id` leads to."""
     quoted = re.sub(r'(["\\])', r"\\\1", id)
-    return document.first(f'[id="{quoted}"], a[name="{quoted}"]') is not None
+    return document.select_one(f'[id="{quoted}"], a[name="{quoted}"]') is not None
 
 
 def leads(document: Document, page: str, link: str) -> bool:

@@ -3,7 +3,7 @@ import ctypes
 import os
 import unittest
 
-from tlhtml import Document, Policy, as_is, edit, sanitize
+from tlhtml import Document, Policy, edit, sanitize
 from tlhtml._calls import lib
 
 PAGE = "<ul><LI class=a @click=f() href='?a=1&b'>x &amp; y<LI>3 < 4</UL><p>z"
@@ -29,22 +29,25 @@ class Refusals(unittest.TestCase):
 
     def test_each_call(self):
         document = Document(PAGE)
-        item = document.first("li")
+        item = document.select_one("li")
         for call in (
             lambda: sanitize(PAGE),
             lambda: sanitize(PAGE, Policy.BLOG.lists(tags=["p", "li"])),
             lambda: edit(PAGE, "li", "fill", text="<"),
             lambda: Document(PAGE).text,
             lambda: document.select("ul > li"),
-            lambda: (document.first("ul > li"), item.select("ul > li"), item.first("ul > li")),
+            lambda: (document.select_one("ul > li"), item.select("ul > li"), item.select_one("ul > li"), item.closest("ul > li")),
             lambda: item.matches("ul > li"),
-            lambda: (item.text, item.html, item.inner_html),
-            lambda: (item.attributes, item["@click"]),
-            lambda: as_is.edit("set 0 a b", "<p>x"),
-            lambda: (as_is.print_page(PAGE), as_is.text(PAGE), as_is.sanitize(PAGE)),
+            lambda: (item.text, item.outer_html, item.inner_html, document.html),
+            lambda: item.attributes,
         ):
             self.assertTrue(self.check(call))
-        self.check(lambda: [it.parent is None for it in Document(PAGE).nodes])
+        for call in (
+            lambda: (item.name, item.kind, item.namespace, item.source, item["@click"], "href" in item),
+            lambda: (item.parent, list(item.parents), item.first_child, item.next_sibling, item.previous_sibling),
+            lambda: (list(item.children), list(item.descendants), list(document.children), document.nodes, document.is_quirks),
+        ):
+            self.assertFalse(self.check(call))
         self.assertEqual(item.text, "x & y")
 
 

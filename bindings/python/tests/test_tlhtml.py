@@ -1,11 +1,13 @@
 """Each call once and more, with what comes of pages that people write. `python3 -m pytest` runs them, and so does `-m unittest`."""
+import doctest
 import os
 import threading
+import time
 import unittest
 
 import tlhtml
-from tlhtml import ChangeError, Document, NoSteps, Policy, PolicyError, Refused, SelectorError
-from tlhtml import as_is, edit, sanitize, set_attribute, unset_attribute
+from tlhtml import ChangeError, Document, Error, OutOfProportion, Policy, PolicyError, SelectorError, TooLong
+from tlhtml import edit, sanitize, set_attribute, unset_attribute
 
 PAGE = "<UL><LI hidden class=a @click=f() href='?a=1&b=2&lt;'>x &amp; y<LI>3 < 4</UL><!-- c --><p>z"
 
@@ -14,82 +16,249 @@ class Selectors(unittest.TestCase):
     def setUp(self):
         self.document = Document(PAGE)
 
-    def test_tags_in_order(self):
+    def test_elements_in_order(self):
         self.assertEqual([it.name for it in self.document.select("li, p")], ["li", "li", "p"])
         self.assertEqual(self.document.select("i"), [])
-        self.assertIsNone(self.document.first("i"))
-        self.assertEqual(self.document.first("li + li").text, "3 < 4")
+        self.assertIsNone(self.document.select_one("i"))
+        self.assertEqual(self.document.select_one("li + li").text, "3 < 4")
         self.assertEqual(len(self.document.select(r"[\@click]")), 1)
+        self.assertEqual([it.name for it in self.document.select(":scope")], ["html"])
 
     def test_a_wrong_one(self):
         with self.assertRaises(SelectorError) as it:
             self.document.select("é li:hover")
-        self.assertEqual((it.exception.place, it.exception.cause), (5, 9))
+        self.assertEqual((it.exception.selector, it.exception.place, it.exception.cause), ("é li:hover", 5, 9))
         self.assertEqual(str(it.exception), "no selector: 'é li:hover': at 5: no such pseudo-class")
+        with self.assertRaises(SelectorError) as it:
+            self.document.select("> li")
+        self.assertEqual((it.exception.place, it.exception.cause), (0, 2))
 
     def test_below_a_node(self):
-        items, _, last = self.document.children
+        items, _, last = self.document.select_one("body").children
         self.assertEqual(len(items.select("li")), 2)
-        self.assertEqual(items.first("li").next.select("*"), [])
-        self.assertIsNone(last.first("li"))
-        item = items.first("li")
+        self.assertEqual(items.select_one("li").next_sibling.select("*"), [])
+        self.assertIsNone(last.select_one("li"))
+        item = items.select_one("li")
         self.assertEqual(items.select("li"), self.document.select("li"))
-        self.assertEqual(items.first("body li + li, ul > li + li"), item.next)
-        self.assertIsNone(items.first("ul"))
-        for selector, wanted in (("li", True), ("LI[href].a", True), ("ul > :first-child", True), ("ul", False), ("p, li + li", False)):
+        self.assertEqual(items.select_one("body li + li, ul > li + li"), item.next_sibling)
+        self.assertIsNone(items.select_one("ul"))
+        for selector, wanted in (("li", True), ("LI[href].a", True), ("ul > :first-child", True), (":scope", True), ("ul", False), ("p, li + li", False)):
             self.assertEqual(item.matches(selector), wanted)
         text = next(item.children)
-        self.assertEqual((text.matches("*"), text.select("*"), text.first("*")), (False, [], None))
-        for ask in (self.document.first, item.select, item.first, item.matches):
+        self.assertEqual((text.matches("*"), text.select("*"), text.select_one("*")), (False, [], None))
+        for ask in (self.document.select_one, item.select, item.select_one, item.closest, item.matches):
             with self.assertRaises(SelectorError) as it:
                 ask("é li:hover")
             self.assertEqual((it.exception.place, it.exception.cause), (5, 9))
+
+    def test_from_a_node_on(self):
+        document = Document("<ul id=a><li>1<ul id=b><li>2</ul></ul>")
+        outer, inner = document.select("ul")
+        self.assertEqual([it.number for it in outer.select("> li")], [outer.first_child.number])
+        self.assertEqual(outer.select(":scope > li"), outer.select("> li"))
+        self.assertEqual(outer.select_one("> li > ul"), inner)
+        self.assertEqual((inner.select("+ li"), inner.select_one("~ li")), ([], None))
+        self.assertEqual(inner.closest("li"), outer.first_child)
+        self.assertEqual((inner.closest("ul"), inner.closest("ul:has(:scope)"), inner.closest("p")), (inner, outer, None))
+        self.assertEqual(inner.first_child.first_child.closest("#b"), inner)
 
 
 class Nodes(unittest.TestCase):
     def test_kinds_and_places(self):
         document = Document(PAGE)
-        items, comment, last = document.children
-        self.assertEqual([it.kind for it in (items, comment, last)], ["tag", "comment", "tag"])
+        (root,) = document.children
+        body = document.select_one("body")
+        items, comment, last = body.children
+        self.assertEqual([it.kind for it in (items, comment, last)], ["element", "comment", "element"])
         item = next(items.children)
-        self.assertEqual((item.parent, items.parent, last.next), (items, None, None))
-        self.assertEqual((item.next.html, item.next.inner_html), ("<li>3 &lt; 4</li>", "3 &lt; 4"))
-        self.assertEqual((comment.name, comment.html, comment.text), (None, "<!-- c -->", ""))
-        self.assertEqual((item.text, document.text), ("x & y", "x & y3 < 4z"))
-        self.assertEqual([it.number for it in document.nodes], list(range(8)))
-        self.assertEqual(list(Document("").children), [])
-        self.assertEqual({item, document.first("li")}, {item})
-        self.assertNotEqual(item, Document(PAGE).first("li"))
-        self.assertEqual(repr(item), "<tlhtml.Node 1: tag li>")
+        self.assertEqual((item.parent, root.parent, last.next_sibling), (items, None, None))
+        self.assertEqual(list(item.parents), [items, body, root])
+        self.assertEqual((items.first_child, item.next_sibling.previous_sibling, item.previous_sibling), (item, item, None))
+        self.assertEqual((item.next_sibling.outer_html, item.next_sibling.inner_html), ("<li>3 &lt; 4</li>", "3 &lt; 4"))
+        self.assertEqual((comment.name, comment.outer_html, comment.inner_html, comment.text), (None, "<!-- c -->", "", " c "))
+        self.assertEqual([it.number for it in document.nodes], list(range(11)))
+        self.assertEqual([it.number for it in root.descendants], list(range(1, 11)))
+        self.assertEqual(len(list(items.descendants)), 4)
+        self.assertEqual({item, document.select_one("li")}, {item})
+        self.assertNotEqual(item, Document(PAGE).select_one("li"))
+        self.assertEqual(repr(item), "<tlhtml.Node 4: element li>")
         text = next(item.children)
-        self.assertEqual((text.kind, text.name, text.text, repr(text)), ("text", None, "x & y", "<tlhtml.Node 2: text>"))
+        self.assertEqual((text.kind, text.name, text.text, repr(text)), ("text", None, "x & y", "<tlhtml.Node 5: text>"))
+        self.assertEqual((text.outer_html, text.inner_html, text.first_child, list(text.descendants)), ("x &amp; y", "", None, []))
 
     def test_attributes(self):
-        item = Document(PAGE).first("li")
+        item = Document(PAGE).select_one("li")
         self.assertEqual(item["HREF"], "?a=1&b=2<")
         self.assertEqual((item.get("@click"), item.get("hidden"), item.get("id")), ("f()", "", None))
         self.assertEqual(item.get("id", "none"), "none")
-        self.assertTrue("hidden" in item and "id" not in item)
-        self.assertEqual(item.attributes, {"@click": "f()", "class": "a", "hidden": "", "href": "?a=1&b=2<"})
+        self.assertTrue("hidden" in item and "Href" in item and "id" not in item and "" not in item)
+        self.assertEqual(list(item.attributes.items()), [("hidden", ""), ("class", "a"), ("@click", "f()"), ("href", "?a=1&b=2<")])
         with self.assertRaises(KeyError):
             item["id"]
         text = next(item.children)
-        self.assertEqual((text.attributes, text.get("id")), ({}, None))
+        self.assertEqual((text.attributes, text.get("id"), "id" in text), ({}, None, False))
 
     def test_bytes_0_and_long_answers(self):
         long = "é" * 100_000
         document = Document(f"<b>{long}</b>" + "<i>&lt;" * 1000)
-        self.assertEqual(document.first("b").text, long)
-        self.assertEqual(document.first("i").text, "<" * 1000)
+        self.assertEqual(document.select_one("b").text, long)
+        self.assertEqual(document.select_one("i").text, "<" * 1000)
         self.assertEqual(len(Document("<b></b>" * 5000).select("b")), 5000)
+        self.assertEqual(Document("\xa0" * 50_000).select_one("body").inner_html, "&nbsp;" * 50_000)
+        self.assertEqual(Document("<p a='x\0y'>").select_one("p")["a"], "x\ufffdy")
+
+
+class Trees(unittest.TestCase):
+    def test_whole_pages(self):
+        document = Document(PAGE)
+        self.assertEqual((document.text, document.is_quirks), ("x & y3 < 4z", True))
+        self.assertEqual(
+            document.html,
+            '<html><head></head><body><ul><li hidden="" class="a" @click="f()" href="?a=1&amp;b=2&lt;">x &amp; y</li>'
+            "<li>3 &lt; 4</li></ul><!-- c --><p>z</p></body></html>",
+        )
+        empty = Document("")
+        self.assertEqual((empty.html, empty.text, len(empty.nodes)), ("<html><head></head><body></body></html>", "", 3))
+        document = Document("<!doctype html><!-- a --><title>b</title>")
+        self.assertEqual(([it.kind for it in document.children], document.is_quirks), (["doctype", "comment", "element"], False))
+        doctype = document.nodes[0]
+        self.assertEqual((doctype.outer_html, doctype.inner_html, doctype.text, doctype.name), ("<!DOCTYPE html>", "", "", None))
+        self.assertEqual((doctype.source, document.text), ((0, 15), "b"))
+
+    def test_quirks_and_marks(self):
+        """Without a doctype classes and ids hold in any case. A byte order mark is no part of the tree, and counts in places."""
+        quirky, standard = (Document(f"\ufeff{it}<p class=A id=B>x") for it in ("", "<!DOCTYPE html>"))
+        self.assertEqual((quirky.is_quirks, standard.is_quirks, quirky.text), (True, False, "x"))
+        self.assertEqual(([len(it.select(".a#b")) for it in (quirky, standard)], len(standard.select(".A#B"))), ([1, 0], 1))
+        self.assertEqual((quirky.select_one("p").source, standard.select_one("p").source), ((3, 19), (18, 34)))
+
+    def test_tables(self):
+        """What browsers put in, and where what stands in the page comes from."""
+        page = "<p>é &amp; b<table id=t><TR CLASS=r><td>1<td>2<!-- é --></table>".encode()
+        document = Document(page)
+        row = document.select_one("table > tbody > tr")
+        self.assertEqual(len(document.select("#t > tbody > tr > td")), 2)
+        self.assertEqual(document.select("table > tr"), [])
+        self.assertEqual((row.parent.name, row.parent.source, row.parent.attributes), ("tbody", None, {}))
+
+        def place(node):
+            start, end = node.source
+            return page[start:end].decode()
+
+        self.assertEqual(place(row), "<TR CLASS=r>")
+        self.assertEqual([place(it) for it in row.select_one("> td:last-child").children], ["2", "<!-- é -->"])
+        self.assertEqual(place(document.select_one("p").first_child), "é &amp; b")
+        self.assertIsNone(document.select_one("head").source)
+
+    def test_namespaces(self):
+        document = Document(
+            "<svg viewbox='0 0 1 1'><title>an <b>icon</b></title><use XLINK:HREF=#a href=#b></use></svg><math><mi>x</mi></math><p>y"
+        )
+        spaces = [document.select_one(it).namespace for it in ("svg", "svg > title", "use", "math > mi", "p", "svg > title > b")]
+        self.assertEqual(spaces, ["svg", "svg", "svg", "mathml", "html", "html"])
+        icon, used = document.select_one("svg"), document.select_one("use")
+        self.assertIsNone(document.select_one("p").first_child.namespace)
+        self.assertEqual((icon["viewBox"], icon.get("viewbox"), "viewBox" in icon), ("0 0 1 1", None, True))
+        self.assertEqual((used["xlink:href"], used["href"]), ("#a", "#b"))
+        self.assertEqual(list(used.attributes.items()), [("xlink:href", "#a"), ("href", "#b")])
+        self.assertEqual(used.outer_html, '<use xlink:href="#a" href="#b"></use>')
+        self.assertEqual(icon.select_one("title").outer_html, "<title>an <b>icon</b></title>")
+
+    def test_templates(self):
+        document = Document("<template id=t><p class=a>x</p>y</template><p>z")
+        template = document.select_one("#t")
+        (contents,) = template.children
+        self.assertEqual((contents.kind, contents.name, contents.source, contents.parent), ("contents", None, None, template))
+        self.assertEqual((template.inner_html, contents.inner_html), ('<p class="a">x</p>y', '<p class="a">x</p>y'))
+        self.assertEqual(template.outer_html, '<template id="t"><p class="a">x</p>y</template>')
+        self.assertEqual((len(document.select("p")), template.select("p")), (1, []))
+        inside = contents.select_one("p.a")
+        self.assertEqual((inside.parent, inside.matches("p.a")), (contents, True))
+        self.assertEqual((template.text, contents.text, document.text), ("", "xy", "z"))
+
+    def test_raw_texts(self):
+        """What stands in a script and a style is printed as it is."""
+        page = '<script>if (a < b && c) f("<p>")</script><style>a > b {}</style>'
+        document = Document(page)
+        self.assertEqual(document.html, f"<html><head>{page}</head><body></body></html>")
+        script = document.select_one("script")
+        self.assertEqual(script.text, 'if (a < b && c) f("<p>")')
+        self.assertEqual((script.inner_html, script.first_child.outer_html), (script.text, script.text))
+
+    def test_a_tree_out_of_proportion(self):
+        """A page whose tags are never closed, and are opened again in each paragraph."""
+        page = "<p>" + "".join(f"<font size={it}>" for it in range(2_000)) + "<p>x" * 100
+        with self.assertRaisesRegex(OutOfProportion, "^the tree of the page is out of proportion$"):
+            Document(page)
+        self.assertTrue(issubclass(OutOfProportion, (Error, ValueError)) and issubclass(TooLong, (Error, ValueError)))
+
+
+class Wrong(unittest.TestCase):
+    def test_types(self):
+        """What is no text is a TypeError that says what was wanted."""
+        document = Document(PAGE)
+        item = document.select_one("li")
+        for wanted, ask in (
+            ("a page is a str or bytes, not int", lambda: Document(1)),
+            ("a page is a str or bytes, not NoneType", lambda: Document(None)),
+            ("a selector is a str, not bytes", lambda: document.select(b"p")),
+            ("a selector is a str, not NoneType", lambda: document.select_one(None)),
+            ("a selector is a str, not int", lambda: item.select(1)),
+            ("a selector is a str, not int", lambda: item.select_one(1)),
+            ("a selector is a str, not int", lambda: item.closest(1)),
+            ("a selector is a str, not int", lambda: item.matches(1)),
+            ("a key is a str, not int", lambda: item[0]),
+            ("a key is a str, not bytes", lambda: item.get(b"href")),
+            ("a key is a str, not int", lambda: 0 in item),
+            ("a page is a str, not bytes", lambda: sanitize(b"<p>")),
+            ("a policy is a Policy or its lists, not str", lambda: sanitize("<p>", "blog")),
+            ("a list is a str or some of them, not int", lambda: Policy.BLOG.lists(tags=1)),
+            ("a word of a list is a str, not int", lambda: Policy.BLOG.lists(tags=[1])),
+            ("a prefix is a str, not int", lambda: Policy.BLOG.lists(id_prefix=1)),
+            ("a page is a str, not bytes", lambda: edit(b"<p>", "p", "remove")),
+            ("a selector is a str, not int", lambda: edit("<p>", 1, "remove")),
+            ("what is put is a str, not int", lambda: edit("<p>", "p", "fill", text=1)),
+            ("a key is a str, not int", lambda: set_attribute("<p>", "p", 1, "x")),
+            ("a value is a str, not int", lambda: set_attribute("<p>", "p", "a", 1)),
+            ("a key is a str, not NoneType", lambda: unset_attribute("<p>", "p", None)),
+        ):
+            with self.assertRaises(TypeError) as it:
+                ask()
+            self.assertEqual(str(it.exception), wanted)
+
+    def test_lone_surrogates(self):
+        document = Document(PAGE)
+        for ask in (document.select, document.select_one("li").get, sanitize, Document):
+            with self.assertRaises(UnicodeEncodeError):
+                ask("\ud800")
+
+
+class Examples(unittest.TestCase):
+    def test_those_of_the_documents(self):
+        for module in (tlhtml, tlhtml._document):
+            self.assertEqual(doctest.testmod(module).failed, 0)
 
 
 class Closing(unittest.TestCase):
     def test_a_closed_document(self):
         with Document(PAGE) as document:
-            item = document.first("li")
+            item = document.select_one("li")
         document.close()
-        for ask in (lambda: document.select("li"), lambda: item.text, lambda: item.attributes, lambda: item.kind):
+        for ask in (
+            lambda: document.select("li"),
+            lambda: document.select_one("li"),
+            lambda: document.html,
+            lambda: document.nodes,
+            lambda: document.children,
+            lambda: document.is_quirks,
+            lambda: item.text,
+            lambda: item.attributes,
+            lambda: item.get("href"),
+            lambda: item.kind,
+            lambda: item.parent,
+            lambda: item.source,
+            lambda: item.descendants,
+        ):
             with self.assertRaisesRegex(ValueError, "closed"):
                 ask()
 
@@ -105,7 +274,6 @@ class SafePages(unittest.TestCase):
     def test_what_people_type(self):
         self.assertEqual(sanitize("I <3 <A HREF=/x>é"), 'I &lt;3 <a href="/x">é</a>')
         self.assertEqual(sanitize("<" * 5000), "&lt;" * 5000)
-        self.assertEqual(as_is.sanitize("<p onclick=f()>é<script>y</script>"), "<p>é</p>")
         self.assertEqual(sanitize(""), "")
 
     def test_policies(self):
@@ -219,38 +387,8 @@ class Elements(unittest.TestCase):
 
     def test_a_tag_of_many_keys(self):
         keys = "".join(f' k{it}="{it}&amp;"' for it in range(2_000))
-        attributes = Document(f"<p{keys} hidden>").first("p").attributes
+        attributes = Document(f"<p{keys} hidden>").select_one("p").attributes
         self.assertEqual((len(attributes), attributes["k1999"], attributes["hidden"]), (2_001, "1999&", ""))
-
-
-class AsIs(unittest.TestCase):
-    def test_calls_with_a_page(self):
-        self.assertEqual(as_is.print_page("<p a>x\0é"), "<p a>x\0é</p>")
-        self.assertEqual(as_is.text("a<p>b<br>c</p><!-- d -->"), "abc")
-        self.assertEqual(as_is.edit("set 0 href /x", "<a>y</a>"), '<a href="/x">y</a>')
-        self.assertEqual(as_is.select("p", as_is.INNER_TEXT, "<p>x<b>y</b></p><p>z"), ["xy", "z"])
-        self.assertEqual(as_is.select("a", as_is.ATTRIBUTE, '<a href="/x"><a>', "href"), ["/x"])
-        for field, wanted in ((as_is.NUMBER, "1"), (as_is.OUTER_HTML, '<b a="/x">y</b>'), (as_is.INNER_HTML, "y")):
-            self.assertEqual(as_is.select("b", field, 'x<b a="/x">y</b>'), [wanted])
-
-    def test_what_is_refused(self):
-        for error, call, words in (
-            (Refused, as_is.edit, ("push 5 0", "<a></a>")),
-            (Refused, as_is.edit, ("push 0 0", "<a></a>")),
-            (NoSteps, as_is.edit, ("push 0", "<a></a>")),
-            (Refused, as_is.select, (",", as_is.NUMBER, "")),
-            (ValueError, as_is.select, ("p", 5, "<p>")),
-        ):
-            with self.assertRaises(error):
-                call(*words)
-
-    def test_a_document(self):
-        document = as_is.parse("<A b>&amp;</A>")
-        (tag,) = as_is.find(document, "A")
-        self.assertEqual((tag.text, tag.get("b"), tag.get("c"), tag.attributes), ("&amp;", "", None, {"b": ""}))
-        self.assertEqual(("b" in tag, "c" in tag), (True, False))
-        with self.assertRaises(Refused):
-            as_is.find(document, ",")
 
 
 class Threads(unittest.TestCase):
@@ -261,7 +399,7 @@ class Threads(unittest.TestCase):
 
         def ask(first):
             for number in list(range(first, 200)) * 3:
-                node = document.first(f"#user-{number}")
+                node = document.select_one(f"#user-{number}")
                 if node.text != "x" * number or node["id"] != f"user-{number}":
                     wrong.append(number)
 
@@ -271,6 +409,30 @@ class Threads(unittest.TestCase):
         for it in threads:
             it.join()
         self.assertEqual(wrong, [])
+
+    def test_four_pages_in_four_threads(self):
+        """No call with one page keeps another page waiting: at a moment all four are read, each in a thread of its own. Where the machine
+        gives a thread no time just then, they try once more."""
+        pages = [f"<ul>{f'<li class=c{it}>{it} &amp; 1<td>' * 100_000}" for it in range(4)]
+        begun, times, found = threading.Barrier(4), [(0.0, 0.0)] * 4, [0] * 4
+
+        def read(it):
+            begun.wait()
+            start = time.monotonic()
+            with Document(pages[it]) as document:
+                times[it] = start, time.monotonic()
+                found[it] = len(document.select(f"ul > li.c{it}"))
+
+        for _ in range(5):
+            threads = [threading.Thread(target=read, args=(it,)) for it in range(4)]
+            for it in threads:
+                it.start()
+            for it in threads:
+                it.join()
+            self.assertEqual(found, [100_000] * 4)
+            if max(start for start, _ in times) < min(end for _, end in times):
+                return
+        self.fail("the pages are read one after the other")
 
 
 if __name__ == "__main__":

@@ -6,24 +6,21 @@
 >>> sanitize("<p onclick=f()>I <3 <script>y</script>it")
 '<p>I &lt;3 it</p>'
 """
-from . import as_is
 from ._calls import version
 from ._document import Document, Lists, Node, Policy, edit, sanitize, set_attribute, unset_attribute
-from ._errors import ChangeError, Error, NoSteps, PolicyError, Refused, SelectorError, TooLong
+from ._errors import ChangeError, Error, OutOfProportion, PolicyError, SelectorError, TooLong
 
 __all__ = [
     "ChangeError",
     "Document",
     "Error",
     "Lists",
-    "NoSteps",
     "Node",
+    "OutOfProportion",
     "Policy",
     "PolicyError",
-    "Refused",
     "SelectorError",
     "TooLong",
-    "as_is",
     "edit",
     "sanitize",
     "set_attribute",

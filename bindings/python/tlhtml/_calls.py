@@ -7,7 +7,7 @@ import os
 import struct
 from typing import Any, Callable, Sequence
 
-from ._errors import Refused, TooLong
+from ._errors import OutOfProportion, TooLong
 
 NO_NODE = 4294967295
 DONE, REFUSED, NOT_UNDERSTOOD, OUT_OF_MEMORY, NO_ROOM = range(5)
@@ -54,39 +54,35 @@ _ONE = [ctypes.POINTER(ctypes.c_uint32)]
 
 lib = ctypes.CDLL(_path())
 for _name, _kind, _words in (
-    ("tl_print", ctypes.c_uint8, _LENT + _OUT),
-    ("tl_text", ctypes.c_uint8, _LENT + _OUT),
-    ("tl_edit", ctypes.c_uint8, _LENT + _LENT + _OUT),
-    ("tl_select", ctypes.c_uint8, _LENT + [ctypes.c_uint8] + _LENT + _LENT + _OUT),
-    ("tl_sanitize", ctypes.c_uint8, _LENT + _OUT),
     ("tl_sanitize_html", ctypes.c_uint8, _LENT + _OUT),
     ("tl_sanitize_html_by", ctypes.c_uint8, [ctypes.c_uint8] + _LENT + _OUT),
     ("tl_sanitize_html_with", ctypes.c_uint8, [ctypes.POINTER(Lists)] + _LENT + _OUT + [ctypes.POINTER(ctypes.c_uint8)]),
     ("tl_refused_word", ctypes.c_uint8, [ctypes.POINTER(Lists)] + _OUT + [ctypes.POINTER(ctypes.c_uint8)]),
     ("tl_edit_css", ctypes.c_uint8, [ctypes.c_uint8] * 2 + _LENT * 3 + _OUT + _PLACE),
     ("tl_patch_css", ctypes.c_uint8, [ctypes.c_uint8] + _LENT * 4 + _OUT + _PLACE),
-    ("tl_decode_text", ctypes.c_uint8, _LENT + _OUT),
-    ("tl_decode_value", ctypes.c_uint8, _LENT + _OUT),
-    ("tl_decode_name", ctypes.c_uint8, _LENT + _OUT),
-    ("tl_code_name", ctypes.c_uint8, _LENT + _OUT),
     ("tl_version", ctypes.c_uint8, _OUT),
-    ("tl_parse", ctypes.c_uint8, _LENT + [_OF]),
     ("tl_parse_html", ctypes.c_uint8, _LENT + [_OF]),
     ("tl_free", None, [_OF]),
-    ("tl_find", ctypes.c_uint8, [_OF] + _LENT + _OUT),
+    ("tl_node_count", ctypes.c_uint32, [_OF]),
+    ("tl_is_quirks", ctypes.c_uint8, [_OF]),
+    ("tl_document_html", ctypes.c_uint8, [_OF] + _OUT),
     ("tl_select_css", ctypes.c_uint8, [_OF] + _LENT + _OUT + _PLACE),
     ("tl_first_css", ctypes.c_uint8, [_OF] + _LENT + _ONE + _PLACE),
     ("tl_node_select_css", ctypes.c_uint8, _NODE + _LENT + _OUT + _PLACE),
     ("tl_node_first_css", ctypes.c_uint8, _NODE + _LENT + _ONE + _PLACE),
     ("tl_node_matches_css", ctypes.c_uint8, _NODE + _LENT + [ctypes.POINTER(ctypes.c_uint8)] + _PLACE),
-    ("tl_links", ctypes.c_uint8, [_OF] + _OUT),
+    ("tl_node_closest_css", ctypes.c_uint8, _NODE + _LENT + _ONE + _PLACE),
     ("tl_node_kind", ctypes.c_uint8, _NODE),
-    ("tl_node_child", ctypes.c_uint32, _NODE),
-    ("tl_node_key", ctypes.c_uint8, _NODE + _LENT),
+    ("tl_node_namespace", ctypes.c_uint8, _NODE),
+    ("tl_node_parent", ctypes.c_uint32, _NODE),
+    ("tl_node_first_child", ctypes.c_uint32, _NODE),
+    ("tl_node_next_sibling", ctypes.c_uint32, _NODE),
+    ("tl_node_previous_sibling", ctypes.c_uint32, _NODE),
+    ("tl_node_end", ctypes.c_uint32, _NODE),
+    ("tl_node_source", ctypes.c_uint8, _NODE + [ctypes.POINTER(ctypes.c_size_t)] * 2),
     ("tl_node_name", ctypes.c_uint8, _NODE + _OUT),
-    ("tl_node_keys", ctypes.c_uint8, _NODE + _OUT),
     ("tl_node_attributes", ctypes.c_uint8, _NODE + _OUT),
-    ("tl_node_html", ctypes.c_uint8, _NODE + _OUT),
+    ("tl_node_outer_html", ctypes.c_uint8, _NODE + _OUT),
     ("tl_node_inner_html", ctypes.c_uint8, _NODE + _OUT),
     ("tl_attribute", ctypes.c_uint8, _NODE + _LENT + _OUT),
     ("tl_node_text", ctypes.c_uint8, _NODE + _OUT),
@@ -95,76 +91,95 @@ for _name, _kind, _words in (
 
 
 def error_of(status: int) -> Exception:
-    """What a status says that is no answer. A page here is always a text, so one that isn't understood is too long."""
-    if status == REFUSED:
-        return Refused("refused")
+    """What a status says that is no answer. What is lent is always a text, so what isn't understood is too long."""
     return TooLong("the page is too long") if status == NOT_UNDERSTOOD else MemoryError("libtl is out of memory")
 
 
+def page_error_of(status: int, page: bytes) -> Exception:
+    """What such a status says of a page whose tree was asked for. Where that is no UTF-8, UnicodeDecodeError says where."""
+    if status != NOT_UNDERSTOOD or len(page) > 4294967295:
+        return error_of(status)
+    try:
+        page.decode()
+    except UnicodeDecodeError as error:
+        return error
+    return OutOfProportion("the tree of the page is out of proportion")
+
+
+_LENGTHS = struct.Struct("<QQ")
+
+
 class Room:
-    """Room that answers are put into; it grows to what is needed and is kept, so that hardly an answer is made twice."""
+    """Room that answers are put into. It grows to what is needed and is kept, so that hardly an answer is made twice. One call at a time
+    fills it, and what it was filled with is read before the next one does."""
 
     def __init__(self, kind: Any, first: int) -> None:
-        self.kind, self.first = kind, first
-        self.kept: Any = None
+        self._kind, self._first = kind, first
+        self._items: Any = None
+        self._view: memoryview
+        self._count = ctypes.c_size_t()
 
-    def take(self, least: int = 0) -> Any:
-        """Room that no other thread has; at least so much."""
-        room, self.kept = self.kept, None
-        if room is None or len(room) < least:
-            room = (self.kind * max(self.first, least))()
-        return room
+    def _make(self, least: int) -> None:
+        self._items = (self._kind * max(least, 1))()
+        self._view = memoryview(self._items).cast("B").cast("I" if self._kind is ctypes.c_uint32 else "B")
 
-    def fill(self, call: Callable[..., int], words: Sequence[Any], behind: Sequence[Any] = ()) -> tuple[int, Any, int]:
-        """The status of a call, the room that its answer was put into, and how many items it has. Who is done gives the room back."""
-        room, needed = self.take(), ctypes.c_size_t()
+    def fill(self, call: Callable[..., int], *words: Any, behind: Sequence[Any] = ()) -> int:
+        """The status of a call, whose answer is put into the room. `behind` are the words behind that."""
+        if self._items is None:
+            self._make(self._first)
         while True:
-            status = call(*words, room, len(room), needed, *behind)
+            status = call(*words, self._items, len(self._view), self._count, *behind)
             if status != NO_ROOM:
-                return status, room, needed.value
-            room = self.take(needed.value)
+                return status
+            self._make(self._count.value)
+
+    def text(self) -> str:
+        """The text that it was filled with."""
+        return str(self._view[: self._count.value], "utf-8")
+
+    def numbers(self) -> list[int]:
+        """The numbers that it was filled with."""
+        numbers: list[int] = self._view[: self._count.value].tolist()
+        return numbers
+
+    def attributes(self) -> dict[str, str]:
+        """The keys and values that it was filled with, in order."""
+        said, at = bytes(self._view[: self._count.value]), 0
+        pairs: dict[str, str] = {}
+        while at < len(said):
+            key_len, value_len = _LENGTHS.unpack_from(said, at)
+            key = at + _LENGTHS.size
+            value = key + key_len
+            at = value + value_len
+            pairs[said[key:value].decode()] = said[value:at].decode()
+        return pairs
 
 
-_PAIR = struct.Struct("<QQB")
+def room_of(page: bytes) -> Room:
+    """Room for what is made of a page."""
+    return Room(ctypes.c_char, len(page) + len(page) // 8 + 64)
 
 
-def pairs_in(room: Any, count: int) -> list[tuple[str, str]]:
-    """The keys and values that tl_node_attributes puts, in order; a key alone has the empty value."""
-    pairs, at = [], 0
-    while at < count:
-        key_len, value_len, _ = _PAIR.unpack_from(room, at)
-        value = at + _PAIR.size + key_len
-        at = value + value_len
-        pairs.append((text_in(room, value, value - key_len), text_in(room, at, value)))
-    return pairs
-
-
-def text_in(room: Any, end: int, start: int = 0) -> str:
-    return str(memoryview(room)[start:end], "utf-8")
-
-
-def answer(call: Callable[..., int], *words: Any, room: int) -> str:
-    """The text that a call answers, for which so much room is lent first."""
-    status, filled, count = Room(ctypes.c_char, room).fill(call, words)
-    if status != DONE:
-        raise error_of(status)
-    return text_in(filled, count)
-
-
-def of_text(call: Callable[..., int], text: str, *words: Any) -> str:
-    """What a call makes of a text; words stand before it."""
-    lent = text.encode()
-    return answer(call, *words, lent, len(lent), room=len(lent) + len(lent) // 8 + 64)
+def utf8(text: object, what: str) -> bytes:
+    """A text as UTF-8. What is none is a TypeError that says what was wanted; lone surrogates are no text: UnicodeError says where."""
+    if not isinstance(text, str):
+        raise TypeError(f"{what} is a str, not {type(text).__name__}")
+    return text.encode()
 
 
 def page_bytes(page: str | bytes) -> bytes:
-    """A page as UTF-8. Bytes that are none, and lone surrogates, are no text: UnicodeError says where."""
+    """A page that is meant to be UTF-8. Whether its bytes are, the library looks at."""
+    if isinstance(page, bytes):
+        return page
     if isinstance(page, str):
         return page.encode()
-    page.decode()
-    return page
+    raise TypeError(f"a page is a str or bytes, not {type(page).__name__}")
 
 
 def version() -> str:
     """The version of the library."""
-    return answer(lib.tl_version, room=16)
+    room = Room(ctypes.c_char, 16)
+    status = room.fill(lib.tl_version)
+    if status != DONE:
+        raise error_of(status)
+    return room.text()

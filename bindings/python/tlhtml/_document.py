@@ -5,13 +5,15 @@ import ctypes
 import enum
 import threading
 from types import TracebackType
-from typing import Any, Callable, Iterable, Iterator, Sequence
+from typing import Any, Callable, Iterable, Iterator, Sequence, TypeVar
 
 from . import _calls
-from ._calls import DONE, NO_NODE, REFUSED, Handle, Room, error_of, lib, text_in
+from ._calls import DONE, NO_NODE, NO_ROOM, REFUSED, Handle, Room, error_of, lib, page_error_of, room_of, utf8
 from ._errors import ChangeError, PolicyError, SelectorError
 
-KINDS = {1: "tag", 2: "text", 3: "comment"}
+KINDS = ("none", "element", "text", "comment", "doctype", "contents")
+NAMESPACES = (None, "html", "svg", "mathml")
+T = TypeVar("T")
 
 
 class Policy(enum.IntEnum):
@@ -44,17 +46,19 @@ class Policy(enum.IntEnum):
         'x<b>y</b>'
         """
         words = (tags, keys, link_keys, link_prefixes)
-        prefix = None if id_prefix is None else id_prefix.encode()
+        prefix = None if id_prefix is None else utf8(id_prefix, "a prefix")
         return Lists(self, [None if it is None else _with_commas(it) for it in words] + [prefix], relative_links, nofollow_links)
 
 
 def _with_commas(words: Iterable[str]) -> bytes:
     """Words as one text."""
-    listed = [words] if isinstance(words, str) else list(words)
+    if not isinstance(words, Iterable):
+        raise TypeError(f"a list is a str or some of them, not {type(words).__name__}")
+    listed = [utf8(word, "a word of a list") for word in ([words] if isinstance(words, str) else words)]
     for word in listed:
-        if "," in word:
-            raise ValueError(f"a word of a list has no comma: {word!r}")
-    return ",".join(listed).encode()
+        if b"," in word:
+            raise ValueError(f"a word of a list has no comma: {word.decode()!r}")
+    return b",".join(listed)
 
 
 class Lists:
@@ -70,28 +74,32 @@ class Lists:
 
     def _refused_word(self) -> tuple[str | None, int]:
         """The first word for which they are no policy, if there is one, and the number of why."""
-        cause = ctypes.c_uint8()
-        status, room, count = Room(ctypes.c_char, 64).fill(lib.tl_refused_word, (self._lent,), (cause,))
+        room, cause = Room(ctypes.c_char, 64), ctypes.c_uint8()
+        status = room.fill(lib.tl_refused_word, self._lent, behind=(cause,))
         if status not in (DONE, REFUSED):
             raise error_of(status)
-        return (text_in(room, count) if status == DONE else None), cause.value
+        return (room.text() if status == DONE else None), cause.value
 
-    def _sanitize(self, html: str) -> str:
-        page, cause = html.encode(), ctypes.c_uint8()
-        room = Room(ctypes.c_char, len(page) + len(page) // 8 + 64)
-        status, filled, count = room.fill(lib.tl_sanitize_html_with, (self._lent, page, len(page)), (cause,))
-        if status != DONE:
-            raise error_of(status)
-        return text_in(filled, count)
+    def _sanitize(self, page: bytes) -> tuple[int, Room]:
+        room = room_of(page)
+        return room.fill(lib.tl_sanitize_html_with, self._lent, page, len(page), behind=(ctypes.c_uint8(),)), room
 
 
 def sanitize(html: str, policy: Policy | Lists = Policy.BLOG) -> str:
     """What a policy keeps of a page, so that a browser builds just that: no scripts, no handlers of events, no styles, and links where
     the policy lets them lead. What people type is read as browsers read it, so `I <3 you` stays a text. The answer is to stand in an
     ordinary element of a page that is served as UTF-8."""
+    page = utf8(html, "a page")
     if isinstance(policy, Lists):
-        return policy._sanitize(html)
-    return _calls.of_text(lib.tl_sanitize_html_by, html, Policy(policy))
+        status, room = policy._sanitize(page)
+    elif isinstance(policy, int):
+        room = room_of(page)
+        status = room.fill(lib.tl_sanitize_html_by, Policy(policy), page, len(page))
+    else:
+        raise TypeError(f"a policy is a Policy or its lists, not {type(policy).__name__}")
+    if status != DONE:
+        raise page_error_of(status, page)
+    return room.text()
 
 
 def set_attribute(html: str, selector: str, key: str, value: str) -> str:
@@ -106,7 +114,8 @@ def unset_attribute(html: str, selector: str, key: str) -> str:
 
 
 def _patched(edit: int, html: str, selector: str, key: str, value: str) -> str:
-    return _changed(lib.tl_patch_css, [edit], html, selector, key.lower() if key.isascii() else key, value)
+    # (keys are in lower case)
+    return _changed(lib.tl_patch_css, [edit], html, selector, utf8(key, "a key").lower(), utf8(value, "a value"))
 
 
 _EDITS = ("rename", "remove", "unwrap", "replace", "fill", "prepend", "append", "before", "after")
@@ -127,32 +136,24 @@ def edit(html: str, selector: str, what: str, *, name: str | None = None, text: 
     if len(given) != bool(wanted) or any(it not in wanted for it in given):
         raise ValueError(f"{what!r} takes {'a name' if what == 'rename' else 'a text or markup' if wanted else 'nothing else'}")
     numbers = [_EDITS.index(what), int(markup is not None)]
-    content = given[0] if given else ""
-    # (names are in lower case, as keys are)
-    return _changed(lib.tl_edit_css, numbers, html, selector, content.lower() if what == "rename" and content.isascii() else content)
+    content = utf8(given[0], "what is put") if given else b""
+    # (names are in lower case)
+    return _changed(lib.tl_edit_css, numbers, html, selector, content.lower() if what == "rename" else content)
 
 
-def _changed(call: Callable[..., int], numbers: list[int], html: str, selector: str, *texts: str) -> str:
+def _changed(call: Callable[..., int], numbers: list[int], html: str, selector: str, *texts: bytes) -> str:
     """What a call makes of a page and where a selector holds."""
-    page, lent = html.encode(), [it.encode() for it in (selector, *texts)]
-    words = [*numbers, *(word for it in (*lent, page) for word in (it, len(it)))]
-    place, cause = ctypes.c_size_t(), ctypes.c_uint8()
-    status, room, count = Room(ctypes.c_char, len(page) + len(page) // 8 + 64).fill(call, words, (place, cause))
+    page, asked = utf8(html, "a page"), utf8(selector, "a selector")
+    words = [*numbers, *(word for it in (asked, *texts, page) for word in (it, len(it)))]
+    room, place, cause = room_of(page), ctypes.c_size_t(), ctypes.c_uint8()
+    status = room.fill(call, *words, behind=(place, cause))
     if cause.value >= 16:
         raise ChangeError(_characters(page, place.value), cause.value)
     if cause.value:
-        raise SelectorError(selector, _characters(lent[0], place.value), cause.value)
+        raise SelectorError(selector, _characters(asked, place.value), cause.value)
     if status != DONE:
         raise error_of(status)
-    return text_in(room, count)
-
-
-def _look_at(selector: str, status: int, place: int, cause: int) -> None:
-    """Raises what a call says of a selector that is none, or a status that is no answer."""
-    if cause:
-        raise SelectorError(selector, _characters(selector.encode(), place), cause)
-    if status != DONE:
-        raise error_of(status)
+    return room.text()
 
 
 def _characters(text: bytes, place: int) -> int:
@@ -161,23 +162,22 @@ def _characters(text: bytes, place: int) -> int:
 
 
 class Document:
-    """A page that was read, which answers any number of questions; names, values and texts as the characters that they stand for.
+    """The tree of a page, as browsers build it, which answers any number of questions; values and texts as the characters that they say.
+
+    >>> document = Document("<table><tr><td>1<td>2")
+    >>> [it.text for it in document.select("table > tbody > tr > td")]
+    ['1', '2']
 
     Threads may share one: it takes them one after the other. `with` gives its memory back at the end, and so does `close`; else that
     comes with the last name that it has."""
 
-    def __init__(self, page: str | bytes, *, _as_is: bool = False) -> None:
-        self._handle, self._lock = Handle(), threading.RLock()
+    def __init__(self, page: str | bytes) -> None:
         lent = _calls.page_bytes(page)
-        status = (lib.tl_parse if _as_is else lib.tl_parse_html)(lent, len(lent), self._handle)
+        self._handle, self._lock = Handle(), threading.RLock()
+        status = lib.tl_parse_html(lent, len(lent), self._handle)
         if status != DONE:
-            raise error_of(status)
-        # (in a form names are coded, and texts and values escaped)
-        self._is_form = not _as_is
-        self._bytes = Room(ctypes.c_char, len(lent) + 64)
-        # No tag has fewer than three bytes, and no node has none.
-        self._numbers, self._pairs = Room(ctypes.c_uint32, len(lent) // 3 + 1), Room(ctypes.c_uint64, len(lent) + 1)
-        self._links: memoryview | None = None
+            raise page_error_of(status, lent)
+        self._bytes, self._numbers = Room(ctypes.c_char, len(lent) + 64), Room(ctypes.c_uint32, lib.tl_node_count(self._handle))
 
     def close(self) -> None:
         """Gives the memory back. What is asked after that is a ValueError."""
@@ -194,97 +194,100 @@ class Document:
     def __exit__(self, kind: type[BaseException] | None, error: BaseException | None, trace: TracebackType | None) -> None:
         self.close()
 
-    def _call(self, call: Callable[..., int], *words: Any) -> int:
+    def _opened(self) -> Handle:
+        """What calls are lent. It is used while the lock is held."""
+        if not self._handle.at:
+            raise ValueError("the document is closed")
+        return self._handle
+
+    def _number(self, call: Callable[..., int], *words: Any) -> int:
+        """The number or the status that a call returns."""
         with self._lock:
-            if not self._handle.at:
-                raise ValueError("the document is closed")
-            return call(self._handle, *words)
+            return call(self._opened(), *words)
 
-    def _answer(self, call: Callable[..., int], *words: Any, make: Callable[[Any, int], Any] = text_in) -> Any:
-        """What is made of what a call answers, the text; None where that is refused."""
-        status, room, count = self._bytes.fill(lambda *given: self._call(call, *given), words)
-        try:
-            if status not in (DONE, REFUSED):
-                raise error_of(status)
-            return make(room, count) if status == DONE else None
-        finally:
-            self._bytes.kept = room
+    def _answer(self, read: Callable[[Room], T], call: Callable[..., int], *words: Any) -> T | None:
+        """What is read of what a call answers; None where that is refused."""
+        with self._lock:
+            status = self._bytes.fill(call, self._opened(), *words)
+            if status == DONE:
+                return read(self._bytes)
+        if status == REFUSED:
+            return None
+        raise error_of(status)
 
-    def _found(self, call: Callable[..., int], selector: str, front: Sequence[Any] = (), behind: Sequence[Any] = ()) -> tuple[int, list[int]]:
-        """The status of a call that takes a selector, and the numbers that it found."""
-        lent = selector.encode()
-        status, room, count = self._numbers.fill(lambda *given: self._call(call, *given), (*front, lent, len(lent)), behind)
-        found = room[:count] if status == DONE else []
-        self._numbers.kept = room
-        return status, found
+    def _text(self, call: Callable[..., int], *words: Any) -> str:
+        """The text that a call answers."""
+        return self._answer(Room.text, call, *words) or ""
 
     def _selected(self, call: Callable[..., int], selector: str, *front: int) -> list[Node]:
         """The nodes that a call finds which says where and why a selector is none."""
-        place, cause = ctypes.c_size_t(), ctypes.c_uint8()
-        status, found = self._found(call, selector, front, (place, cause))
+        lent, place, cause = utf8(selector, "a selector"), ctypes.c_size_t(), ctypes.c_uint8()
+        found: list[int] = []
+        with self._lock:
+            status = self._numbers.fill(call, self._opened(), *front, lent, len(lent), behind=(place, cause))
+            if status == DONE:
+                found = self._numbers.numbers()
         _look_at(selector, status, place.value, cause.value)
         return [Node(self, number) for number in found]
 
     def _said(self, call: Callable[..., int], selector: str, said: ctypes.c_uint32 | ctypes.c_uint8, *front: int) -> int | None:
         """The one number that such a call says; None where it is refused without a cause."""
-        lent, place, cause = selector.encode(), ctypes.c_size_t(), ctypes.c_uint8()
-        status = self._call(call, *front, lent, len(lent), said, place, cause)
+        lent, place, cause = utf8(selector, "a selector"), ctypes.c_size_t(), ctypes.c_uint8()
+        status = self._number(call, *front, lent, len(lent), said, place, cause)
         if status == REFUSED and not cause.value:
             return None
         _look_at(selector, status, place.value, cause.value)
         return said.value
 
-    def _first(self, call: Callable[..., int], selector: str, *front: int) -> Node | None:
+    def _selected_one(self, call: Callable[..., int], selector: str, *front: int) -> Node | None:
         """The node that such a call says."""
         number = self._said(call, selector, ctypes.c_uint32(), *front)
         return None if number is None else Node(self, number)
 
     def select(self, selector: str) -> list[Node]:
-        """The tags where a selector of CSS holds, in the order of the page."""
+        """The elements where a selector of CSS holds, in the order of the page, without those in a `template`. `:scope` is the root."""
         return self._selected(lib.tl_select_css, selector)
 
-    def first(self, selector: str) -> Node | None:
+    def select_one(self, selector: str) -> Node | None:
         """The first of them."""
-        return self._first(lib.tl_first_css, selector)
+        return self._selected_one(lib.tl_first_css, selector)
 
     @property
-    def _parents_and_nexts(self) -> memoryview:
-        """Of each node its parent and the one behind it, one after the other. That is made once."""
-        if self._links is None:
-            status, room, count = self._pairs.fill(lambda *given: self._call(lib.tl_links, *given), ())
-            if status != DONE:
-                raise error_of(status)
-            self._links = memoryview(bytes(memoryview(room).cast("B")[: 8 * count])).cast("I")
-        return self._links
+    def is_quirks(self) -> bool:
+        """Whether it is in quirks mode, as without a doctype. There classes and ids of selectors hold in any case."""
+        return self._number(lib.tl_is_quirks) != 0
 
     @property
     def nodes(self) -> list[Node]:
-        """All nodes, in the order of the page."""
-        return [Node(self, number) for number in range(len(self._parents_and_nexts) // 2)]
+        """All nodes, in the order of the page: each comes before what is below it."""
+        return [Node(self, number) for number in range(self._number(lib.tl_node_count))]
 
     @property
     def children(self) -> Iterator[Node]:
-        """The nodes at the top, in order."""
-        return _row(self, 0 if len(self._parents_and_nexts) else NO_NODE)
+        """The nodes at the top, in order: the `html`, with a doctype and comments before and behind it."""
+        return _row(Node(self, 0) if self._number(lib.tl_node_count) else None)
 
     @property
     def text(self) -> str:
-        """The texts of the page, in order."""
-        return "".join(child.text for child in self.children)
+        """The texts of the page, one after the other, without those in a `template`: also what `script` and `style` hold."""
+        return "".join(child.text for child in self.children if child.kind == "element")
 
-    def _decoded(self, decode: Callable[..., int], coded: str, mark: str) -> str:
-        """What a name, a value or a text says; one without the mark says what it is."""
-        return _calls.of_text(decode, coded) if self._is_form and mark in coded else coded
+    @property
+    def html(self) -> str:
+        """The whole page as markup, as browsers serialize its tree."""
+        return self._text(lib.tl_document_html)
 
-    def _coded_key(self, key: str) -> bytes:
-        """A key as the document has it."""
-        if self._is_form and not (key.isascii() and key.isalpha() and key.islower()):
-            key = _calls.of_text(lib.tl_code_name, key)
-        return key.encode()
+
+def _look_at(selector: str, status: int, place: int, cause: int) -> None:
+    """Raises what a call says of a selector that is none, or a status that is no answer."""
+    if cause:
+        raise SelectorError(selector, _characters(selector.encode(), place), cause)
+    if status != DONE:
+        raise error_of(status)
 
 
 class Node:
-    """A tag, a text or a comment of a document."""
+    """A node of a document: an element, a text, a comment, a doctype, or the contents of a `template`."""
 
     __slots__ = ("document", "number")
 
@@ -300,37 +303,39 @@ class Node:
     def __hash__(self) -> int:
         return hash((id(self.document), self.number))
 
-    def _own(self, call: Callable[..., int], *words: Any) -> str | None:
-        return self.document._answer(call, self.number, *words)
-
     @property
     def kind(self) -> str:
-        """'tag', 'text' or 'comment'."""
-        return KINDS[self.document._call(lib.tl_node_kind, self.number)]
+        """'element', 'text', 'comment', 'doctype', or 'contents': those of a `template`, in which stands what is written in it, are its one
+        child."""
+        return KINDS[self.document._number(lib.tl_node_kind, self.number)]
+
+    @property
+    def namespace(self) -> str | None:
+        """'html', 'svg' or 'mathml' of an element; None of any other node."""
+        return NAMESPACES[self.document._number(lib.tl_node_namespace, self.number)]
 
     @property
     def name(self) -> str | None:
-        """The name of a tag, in lower case; None of a text or a comment."""
-        name = self._own(lib.tl_node_name)
-        return None if name is None else self.document._decoded(lib.tl_decode_name, name, "+")
+        """The name of an element, of HTML in lower case; None of any other node."""
+        return self.document._answer(Room.text, lib.tl_node_name, self.number)
 
     @property
     def attributes(self) -> dict[str, str]:
-        """The attributes of a tag in order; those that are keys alone, as `hidden`, have the empty text."""
-        pairs = self.document._answer(lib.tl_node_attributes, self.number, make=_calls.pairs_in) or []
-        decoded = self.document._decoded
-        return {decoded(lib.tl_decode_name, key, "+"): decoded(lib.tl_decode_value, value, "&") for key, value in pairs}
+        """The attributes of an element in order, with keys as they are serialized (`xlink:href` in a `svg`); those that are keys alone, as
+        `hidden`, have the empty text."""
+        return self.document._answer(Room.attributes, lib.tl_node_attributes, self.number) or {}
 
-    def _value(self, key: bytes) -> str | None:
-        """The value at a key as the document has it."""
-        value = self._own(lib.tl_attribute, key, len(key))
-        if value is None:
-            return "" if self.document._call(lib.tl_node_key, self.number, key, len(key)) else None
-        return self.document._decoded(lib.tl_decode_value, value, "&")
+    def _key(self, key: object) -> bytes:
+        """A key as it stands there: of an element of HTML in lower case."""
+        lent = utf8(key, "a key")
+        lowered = lent.lower()
+        return lowered if lowered != lent and self.namespace == "html" else lent
 
     def get(self, key: str, default: str | None = None) -> str | None:
-        """The value at a key, whose letters count in any case; the default where there is no such key."""
-        value = self._value(self.document._coded_key(key))
+        """The value at a key, as `xlink:href`, whose letters count in any case at an element of HTML; the default where there is no such
+        key."""
+        lent = self._key(key)
+        value = self.document._answer(Room.text, lib.tl_attribute, self.number, lent, len(lent))
         return default if value is None else value
 
     def __getitem__(self, key: str) -> str:
@@ -339,60 +344,106 @@ class Node:
             raise KeyError(key)
         return value
 
-    def __contains__(self, key: str) -> bool:
+    def __contains__(self, key: object) -> bool:
         """Whether a key stands there."""
-        coded = self.document._coded_key(key)
-        return self.document._call(lib.tl_node_key, self.number, coded, len(coded)) != 0
+        lent = self._key(key)
+        return self.document._number(lib.tl_attribute, self.number, lent, len(lent), b"", 0, ctypes.c_size_t()) in (DONE, NO_ROOM)
 
     @property
     def text(self) -> str:
-        """The texts at or below it, in order, without comments."""
-        return self.document._decoded(lib.tl_decode_text, self._own(lib.tl_node_text) or "", "&")
+        """What a text or a comment says; of any other node what the texts below it say, one after the other, without those in a
+        `template` below it. A doctype says nothing."""
+        return self.document._text(lib.tl_node_text, self.number)
 
     @property
-    def html(self) -> str:
-        """It as markup."""
-        return self._own(lib.tl_node_html) or ""
+    def outer_html(self) -> str:
+        """It as markup, as browsers serialize it."""
+        return self.document._text(lib.tl_node_outer_html, self.number)
 
     @property
     def inner_html(self) -> str:
-        """What is inside as markup; of a text or a comment its own."""
-        return self._own(lib.tl_node_inner_html) or ""
+        """What is inside as markup, of a `template` its contents. Nothing is inside of a text, a comment or a doctype."""
+        return self.document._text(lib.tl_node_inner_html, self.number)
+
+    @property
+    def source(self) -> tuple[int, int] | None:
+        """The bytes of the page, as UTF-8, that it comes from: the first, and that behind the last. Of an element that is its start tag, of
+        a comment and of a doctype all of it, of a text what stands between the two tags, comments or doctypes where it begins. None where
+        no tag stands for the element, as for a `tbody` that browsers put in, and for the contents of a `template`.
+
+        >>> page = b"<table><TR id=a><td>x"
+        >>> start, end = Document(page).select_one("tr").source
+        >>> page[start:end]
+        b'<TR id=a>'
+        """
+        start, end = ctypes.c_size_t(), ctypes.c_size_t()
+        status = self.document._number(lib.tl_node_source, self.number, start, end)
+        return (start.value, end.value) if status == DONE else None
+
+    def _linked(self, call: Callable[..., int]) -> Node | None:
+        """The node that a call says."""
+        number = self.document._number(call, self.number)
+        return None if number == NO_NODE else Node(self.document, number)
 
     @property
     def parent(self) -> Node | None:
-        """The tag that it stands in."""
-        number = self.document._parents_and_nexts[2 * self.number]
-        return None if number == NO_NODE else Node(self.document, number)
+        """The node that it stands in."""
+        return self._linked(lib.tl_node_parent)
 
     @property
-    def next(self) -> Node | None:
-        """The node behind it in the same tag."""
-        number = self.document._parents_and_nexts[2 * self.number + 1]
-        return None if number == NO_NODE else Node(self.document, number)
+    def parents(self) -> Iterator[Node]:
+        """The nodes that it stands in, from the innermost out."""
+        at = self.parent
+        while at is not None:
+            yield at
+            at = at.parent
+
+    @property
+    def first_child(self) -> Node | None:
+        """The first node in it."""
+        return self._linked(lib.tl_node_first_child)
+
+    @property
+    def next_sibling(self) -> Node | None:
+        """The node behind it in what it stands in."""
+        return self._linked(lib.tl_node_next_sibling)
+
+    @property
+    def previous_sibling(self) -> Node | None:
+        """The node before it there. That takes a time linear in how deep the tree is."""
+        return self._linked(lib.tl_node_previous_sibling)
 
     @property
     def children(self) -> Iterator[Node]:
         """The nodes in it, in order."""
-        return _row(self.document, self.document._call(lib.tl_node_child, self.number))
+        return _row(self.first_child)
+
+    @property
+    def descendants(self) -> Iterator[Node]:
+        """All nodes below it, in the order of the page; it is none of them."""
+        end = self.document._number(lib.tl_node_end, self.number)
+        return (Node(self.document, number) for number in range(self.number + 1, end))
 
     def select(self, selector: str) -> list[Node]:
-        """The tags below it where a selector of CSS holds, in order. The selector is asked of the whole page, so it may name what
-        stands around."""
+        """The elements below it where a selector of CSS holds, in order, without those in a `template` below it. The selector is asked of
+        the whole page, so it may name what stands around. `:scope` is the node, and `> li` is `:scope > li`."""
         return self.document._selected(lib.tl_node_select_css, selector, self.number)
 
-    def first(self, selector: str) -> Node | None:
+    def select_one(self, selector: str) -> Node | None:
         """The first of them."""
-        return self.document._first(lib.tl_node_first_css, selector, self.number)
+        return self.document._selected_one(lib.tl_node_first_css, selector, self.number)
+
+    def closest(self, selector: str) -> Node | None:
+        """Of it and the elements that it stands in the innermost one where a selector of CSS holds. `:scope` is the node."""
+        return self.document._selected_one(lib.tl_node_closest_css, selector, self.number)
 
     def matches(self, selector: str) -> bool:
         """Whether a selector of CSS holds at it. All but one of a name, ids, classes and keys (`li.a[href]`) is asked of the whole page."""
         return self.document._said(lib.tl_node_matches_css, selector, ctypes.c_uint8(), self.number) == 1
 
 
-def _row(document: Document, number: int) -> Iterator[Node]:
+def _row(node: Node | None) -> Iterator[Node]:
     """A node and those behind it."""
-    links = document._parents_and_nexts
-    while number != NO_NODE:
-        yield Node(document, number)
-        number = links[2 * number + 1]
+    while node is not None:
+        yield node
+        node = node.next_sibling

@@ -40,6 +40,11 @@ REASONS = {
     10: "no scheme with its `:`, and no `/`, `#`, `?` or `.` stands first",
     11: "no prefix: it is a letter of a-z, and then letters and `-`",
     12: "links can't be marked at this key: it is no listed key, or a link key",
+    13: "`tbody`, `thead` or `tfoot` of this table is missing, so rows lose their texts",
+    14: "`tr` of this table is missing, so rows lose their texts",
+    15: "`td` or `th` of this table is missing, so cells lose their texts",
+    16: "`caption` of this table is missing, so captions lose their texts",
+    17: "`table` is missing, in which alone this tag may stand",
 }
 
 
@@ -48,7 +53,12 @@ class Error(Exception):
 
 
 class TooLong(Error, ValueError):
-    """The page, or what it is written down as while it is read, has more than 4294967295 bytes."""
+    """The page, or of a change what it is written down as while it is read, has more than 4294967295 bytes."""
+
+
+class OutOfProportion(Error, ValueError):
+    """The tree of the page is far larger than the page: thousands of tags that are never closed, and are opened again in each of a
+    hundred paragraphs, make such a tree."""
 
 
 class SelectorError(Error, ValueError):
@@ -82,11 +92,3 @@ class ChangeError(Error, ValueError):
 
     def __str__(self) -> str:
         return f"at {self.place}: {CAUSES.get(self.cause, f'cause {self.cause}')}"
-
-
-class Refused(Error, ValueError):
-    """Of `as_is` alone: a step asks for a node or a place that isn't there or makes a circle, or a selector is none."""
-
-
-class NoSteps(Error, ValueError):
-    """Of `as_is` alone: lines say no steps."""

@@ -6,7 +6,7 @@ use std::path::Path;
 use std::process::ExitCode;
 use tlhtml::Document;
 
-/// Whether a tag of the document is the place that a link `#id` leads to.
+/// Whether an element of the document is the place that a link `#id` leads to.
 fn has_place(document: &Document, id: &str) -> Result<bool, tlhtml::Error> {
     let quoted = id.replace('\\', "\\\\").replace('"', "\\\"");
     Ok(document

@@ -19,7 +19,7 @@ fn is_cell(node: Node<'_>) -> bool {
 fn main() -> Result<(), Box<dyn Error>> {
     let document = Document::parse(&io::read_to_string(io::stdin())?)?;
     for row in document.select("tr")? {
-        let cells = row.children()?.filter(|it| is_cell(*it)).map(quoted);
+        let cells = row.children().filter(|it| is_cell(*it)).map(quoted);
         println!("{}", cells.collect::<Result<Vec<_>, _>>()?.join(","));
     }
     Ok(())

@@ -1,19 +1,11 @@
 //! The calls of `tl.h`, and how room is lent to them.
-use crate::Error;
+use crate::{Attribute, Error};
 use std::ffi::c_void;
 
 /// `tl_document`.
 #[repr(C)]
 pub struct Handle {
     pub at: *mut c_void,
-}
-
-/// `tl_node_links`: the parent and the sibling behind, or [`NO_NODE`].
-#[repr(C)]
-#[derive(Clone, Copy)]
-pub struct Links {
-    pub parent: u32,
-    pub next: u32,
 }
 
 /// `tl_list`.
@@ -52,56 +44,12 @@ pub struct Lists {
 /// What stands where there is no node.
 pub const NO_NODE: u32 = u32::MAX;
 
-/// A call that makes bytes of bytes.
-pub type OfBytes = unsafe extern "C" fn(*const u8, usize, *mut u8, usize, *mut usize) -> u8;
-/// A call that reads a page into a document.
-pub type Parse = unsafe extern "C" fn(*const u8, usize, *mut Handle) -> u8;
 /// A call that makes bytes of a node.
 pub type OfNode = unsafe extern "C" fn(*mut Handle, u32, *mut u8, usize, *mut usize) -> u8;
+/// A call that says where a node stands.
+pub type Link = unsafe extern "C" fn(*mut Handle, u32) -> u32;
 
 unsafe extern "C" {
-    pub fn tl_print(
-        page: *const u8,
-        page_len: usize,
-        out: *mut u8,
-        room: usize,
-        needed: *mut usize,
-    ) -> u8;
-    pub fn tl_text(
-        page: *const u8,
-        page_len: usize,
-        out: *mut u8,
-        room: usize,
-        needed: *mut usize,
-    ) -> u8;
-    pub fn tl_edit(
-        steps: *const u8,
-        steps_len: usize,
-        page: *const u8,
-        page_len: usize,
-        out: *mut u8,
-        room: usize,
-        needed: *mut usize,
-    ) -> u8;
-    pub fn tl_select(
-        selector: *const u8,
-        selector_len: usize,
-        field: u8,
-        key: *const u8,
-        key_len: usize,
-        page: *const u8,
-        page_len: usize,
-        out: *mut u8,
-        room: usize,
-        needed: *mut usize,
-    ) -> u8;
-    pub fn tl_sanitize(
-        page: *const u8,
-        page_len: usize,
-        out: *mut u8,
-        room: usize,
-        needed: *mut usize,
-    ) -> u8;
     pub fn tl_sanitize_html(
         page: *const u8,
         page_len: usize,
@@ -164,43 +112,14 @@ unsafe extern "C" {
         place: *mut usize,
         cause: *mut u8,
     ) -> u8;
-    pub fn tl_decode_text(
-        text: *const u8,
-        text_len: usize,
-        out: *mut u8,
-        room: usize,
-        needed: *mut usize,
-    ) -> u8;
-    pub fn tl_decode_value(
-        value: *const u8,
-        value_len: usize,
-        out: *mut u8,
-        room: usize,
-        needed: *mut usize,
-    ) -> u8;
-    pub fn tl_decode_name(
-        name: *const u8,
-        name_len: usize,
-        out: *mut u8,
-        room: usize,
-        needed: *mut usize,
-    ) -> u8;
-    pub fn tl_code_name(
-        name: *const u8,
-        name_len: usize,
-        out: *mut u8,
-        room: usize,
-        needed: *mut usize,
-    ) -> u8;
     pub fn tl_version(out: *mut u8, room: usize, needed: *mut usize) -> u8;
-    pub fn tl_parse(page: *const u8, page_len: usize, document: *mut Handle) -> u8;
     pub fn tl_parse_html(page: *const u8, page_len: usize, document: *mut Handle) -> u8;
     pub fn tl_free(document: *mut Handle);
-    pub fn tl_find(
+    pub fn tl_node_count(document: *mut Handle) -> u32;
+    pub fn tl_is_quirks(document: *mut Handle) -> u8;
+    pub fn tl_document_html(
         document: *mut Handle,
-        selector: *const u8,
-        selector_len: usize,
-        numbers: *mut u32,
+        out: *mut u8,
         room: usize,
         needed: *mut usize,
     ) -> u8;
@@ -251,15 +170,28 @@ unsafe extern "C" {
         place: *mut usize,
         cause: *mut u8,
     ) -> u8;
-    pub fn tl_links(
+    pub fn tl_node_closest_css(
         document: *mut Handle,
-        links: *mut Links,
-        room: usize,
-        needed: *mut usize,
+        node: u32,
+        selector: *const u8,
+        selector_len: usize,
+        number: *mut u32,
+        place: *mut usize,
+        cause: *mut u8,
     ) -> u8;
     pub fn tl_node_kind(document: *mut Handle, node: u32) -> u8;
-    pub fn tl_node_child(document: *mut Handle, node: u32) -> u32;
-    pub fn tl_node_key(document: *mut Handle, node: u32, key: *const u8, key_len: usize) -> u8;
+    pub fn tl_node_namespace(document: *mut Handle, node: u32) -> u8;
+    pub fn tl_node_parent(document: *mut Handle, node: u32) -> u32;
+    pub fn tl_node_first_child(document: *mut Handle, node: u32) -> u32;
+    pub fn tl_node_next_sibling(document: *mut Handle, node: u32) -> u32;
+    pub fn tl_node_previous_sibling(document: *mut Handle, node: u32) -> u32;
+    pub fn tl_node_end(document: *mut Handle, node: u32) -> u32;
+    pub fn tl_node_source(
+        document: *mut Handle,
+        node: u32,
+        start: *mut usize,
+        end: *mut usize,
+    ) -> u8;
     pub fn tl_node_name(
         document: *mut Handle,
         node: u32,
@@ -274,7 +206,7 @@ unsafe extern "C" {
         room: usize,
         needed: *mut usize,
     ) -> u8;
-    pub fn tl_node_html(
+    pub fn tl_node_outer_html(
         document: *mut Handle,
         node: u32,
         out: *mut u8,
@@ -309,15 +241,23 @@ unsafe extern "C" {
 /// The statuses.
 pub const DONE: u8 = 0;
 pub const REFUSED: u8 = 1;
-pub const NOT_UNDERSTOOD: u8 = 2;
-const NO_ROOM: u8 = 4;
+const NOT_UNDERSTOOD: u8 = 2;
+const OUT_OF_MEMORY: u8 = 3;
+pub const NO_ROOM: u8 = 4;
 
-/// What a status says that is no answer. A page here is always a text, so one that isn't understood is too long.
+/// What a status says that is no answer. What is lent here is always a text, so what isn't understood is too long.
 pub fn error_of(status: u8) -> Error {
     match status {
-        REFUSED => Error::Refused,
         NOT_UNDERSTOOD => Error::TooLong,
         _ => Error::OutOfMemory,
+    }
+}
+
+/// What such a status says of a page whose tree was asked for.
+pub fn page_error_of(status: u8, page: &str) -> Error {
+    match error_of(status) {
+        Error::TooLong if u32::try_from(page.len()).is_ok() => Error::OutOfProportion,
+        error => error,
     }
 }
 
@@ -336,7 +276,7 @@ pub fn fill<T: Copy>(
                 unsafe { room.set_len(needed) };
                 return DONE;
             }
-            NO_ROOM if room.try_reserve(needed).is_err() => return 3,
+            NO_ROOM if room.try_reserve(needed).is_err() => return OUT_OF_MEMORY,
             NO_ROOM => {}
             status => return status,
         }
@@ -348,12 +288,18 @@ pub fn items<T: Copy>(
     room: usize,
     call: impl FnMut(*mut T, usize, *mut usize) -> u8,
 ) -> Result<Vec<T>, u8> {
-    let mut items = Vec::new();
-    items.try_reserve_exact(room).map_err(|_| 3)?;
+    let mut items = with_room(room)?;
     match fill(&mut items, call) {
         DONE => Ok(items),
         status => Err(status),
     }
+}
+
+/// Room for so many items.
+pub fn with_room<T>(room: usize) -> Result<Vec<T>, u8> {
+    let mut items = Vec::new();
+    items.try_reserve_exact(room).map_err(|_| OUT_OF_MEMORY)?;
+    Ok(items)
 }
 
 /// The text that bytes are. Those that come out are UTF-8; a text is cut nowhere else than between characters.
@@ -362,31 +308,39 @@ pub fn text_of(bytes: Vec<u8>) -> String {
         .unwrap_or_else(|it| String::from_utf8_lossy(it.as_bytes()).into_owned())
 }
 
+/// A copy of them as a text.
+pub fn text_in(bytes: &[u8]) -> Result<String, u8> {
+    let mut copy = with_room(bytes.len())?;
+    copy.extend_from_slice(bytes);
+    Ok(text_of(copy))
+}
+
 // The number in 8 bytes, the lowest first, that stands at a place.
 fn number_at(bytes: &[u8], at: usize) -> usize {
     let number = bytes[at..at + 8].iter().rev();
     number.fold(0, |number, byte| number << 8 | usize::from(*byte))
 }
 
-/// The keys and values that `tl_node_attributes` puts, in order; a key alone has the empty value.
-pub fn pairs_in(mut bytes: &[u8]) -> Vec<(String, String)> {
-    let mut pairs = Vec::new();
+/// The keys and values that `tl_node_attributes` puts, in order.
+pub fn attributes_in(mut bytes: &[u8]) -> Result<Vec<Attribute>, u8> {
+    let mut attributes = Vec::new();
     while !bytes.is_empty() {
         let (key_len, value_len) = (number_at(bytes, 0), number_at(bytes, 8));
-        let (key, rest) = bytes[17..].split_at(key_len);
+        let (key, rest) = bytes[16..].split_at(key_len);
         let (value, rest) = rest.split_at(value_len);
-        pairs.push((text_of(key.to_vec()), text_of(value.to_vec())));
+        attributes.try_reserve(1).map_err(|_| OUT_OF_MEMORY)?;
+        attributes.push(Attribute {
+            key: text_in(key)?,
+            value: text_in(value)?,
+        });
         bytes = rest;
     }
-    pairs
+    Ok(attributes)
 }
 
 /// The text that a call answers, for which this room is lent first.
-pub fn text(
-    room: usize,
-    call: impl FnMut(*mut u8, usize, *mut usize) -> u8,
-) -> Result<String, Error> {
-    items(room, call).map(text_of).map_err(error_of)
+pub fn text(room: usize, call: impl FnMut(*mut u8, usize, *mut usize) -> u8) -> Result<String, u8> {
+    items(room, call).map(text_of)
 }
 
 // SAFETY, of each call here and in the other modules: pointer and length are those of one slice, which is lent for the call; a slice that
@@ -395,11 +349,4 @@ pub fn text(
 /// The room that is lent first for what is made of a page.
 pub fn room_of(page: &str) -> usize {
     page.len() + page.len() / 8 + 64
-}
-
-/// What a call makes of a page.
-pub fn of_page(call: OfBytes, page: &str) -> Result<String, Error> {
-    text(room_of(page), |out, room, needed| unsafe {
-        call(page.as_ptr(), page.len(), out, room, needed)
-    })
 }

@@ -1,15 +1,19 @@
 //! Documents.
-use crate::calls::{self, Handle, Links, OfBytes, OfNode, Parse};
-use crate::{Cause, Children, Error, Node};
-use std::cell::{OnceCell, RefCell, UnsafeCell};
+use crate::calls::{self, Handle};
+use crate::{Cause, Children, Error, Kind, Node};
+use std::cell::{RefCell, UnsafeCell};
+use std::iter::FusedIterator;
+use std::ops::Range;
 use std::ptr;
 
-/// A page that was read, which answers any number of questions. It keeps a copy of the page.
+/// The tree of a page, as browsers build it, which answers any number of questions. It keeps a copy of the page.
 ///
 /// ```
 /// let document = tlhtml::Document::parse("<p>one<p class=b>two")?;
 /// let second = document.first("p.b")?.unwrap();
 /// assert_eq!(second.text()?, "two");
+/// assert_eq!(second.parent().unwrap().name()?.as_deref(), Some("body"));
+/// assert_eq!(document.html()?, "<html><head></head><body><p>one</p><p class=\"b\">two</p></body></html>");
 /// assert_eq!(document.select("p +")
 ///     .unwrap_err().to_string(), "no selector: at byte 3: a selector is missing");
 /// # Ok::<(), tlhtml::Error>(())
@@ -21,9 +25,6 @@ pub struct Document {
     handle: UnsafeCell<Handle>,
     // How much the page has, by which room is measured.
     page_len: usize,
-    // Whether it was read as browsers read it, so that names are coded, and texts and values escaped.
-    is_form: bool,
-    links: OnceCell<Vec<Links>>,
     // Room that answers are put into, so that none is made twice for want of it.
     bytes: RefCell<Vec<u8>>,
     numbers: RefCell<Vec<u32>>,
@@ -36,23 +37,17 @@ unsafe impl Send for Document {}
 impl Document {
     /// Reads a page as browsers read it.
     pub fn parse(page: &str) -> Result<Document, Error> {
-        Document::read(calls::tl_parse_html, page, true)
-    }
-
-    pub(crate) fn read(parse: Parse, page: &str, is_form: bool) -> Result<Document, Error> {
         let mut handle = Handle {
             at: ptr::null_mut(),
         };
-        match unsafe { parse(page.as_ptr(), page.len(), &mut handle) } {
+        match unsafe { calls::tl_parse_html(page.as_ptr(), page.len(), &mut handle) } {
             calls::DONE => Ok(Document {
                 handle: UnsafeCell::new(handle),
                 page_len: page.len(),
-                is_form,
-                links: OnceCell::new(),
                 bytes: RefCell::new(Vec::new()),
                 numbers: RefCell::new(Vec::new()),
             }),
-            status => Err(calls::error_of(status)),
+            status => Err(calls::page_error_of(status, page)),
         }
     }
 
@@ -60,7 +55,12 @@ impl Document {
         self.handle.get()
     }
 
-    /// The tags where a selector of CSS holds, in the order of the page.
+    /// Whether it is in quirks mode, as without a doctype. There classes and ids of selectors hold in any case.
+    pub fn is_quirks(&self) -> bool {
+        unsafe { calls::tl_is_quirks(self.handle()) != 0 }
+    }
+
+    /// The elements where a selector of CSS holds, in the order of the page, without those in a `template`. `:scope` is the root.
     pub fn select(&self, selector: &str) -> Result<Vec<Node<'_>>, Error> {
         let (at, len) = (selector.as_ptr(), selector.len());
         self.selected(|numbers, room, needed, place, cause| unsafe {
@@ -92,16 +92,25 @@ impl Document {
         })
     }
 
-    // The nodes of the numbers that such a call answers.
+    // The nodes of the numbers that such a call answers. There is room for those of all nodes.
     pub(crate) fn selected(
         &self,
         call: impl Fn(*mut u32, usize, *mut usize, *mut usize, *mut u8) -> u8,
     ) -> Result<Vec<Node<'_>>, Error> {
-        let nodes = |numbers: &[u32]| numbers.iter().map(|it| Node::new(self, *it)).collect();
         self.by_selector(|place, cause| {
-            self.numbered(nodes, |numbers, room, needed| {
+            let mut numbers = self.numbers.borrow_mut();
+            if numbers.capacity() == 0 {
+                *numbers = calls::with_room(self.node_count() as usize)?;
+            }
+            let status = calls::fill(&mut numbers, |numbers, room, needed| {
                 call(numbers, room, needed, place, cause)
-            })
+            });
+            if status != calls::DONE {
+                return Err(status);
+            }
+            let mut nodes = calls::with_room(numbers.len())?;
+            nodes.extend(numbers.iter().map(|number| Node::new(self, *number)));
+            Ok(nodes)
         })
     }
 
@@ -120,100 +129,58 @@ impl Document {
         })
     }
 
-    // What is made of the numbers that a call answers. No tag has fewer than three bytes, so there is room for all.
-    pub(crate) fn numbered<T>(
+    fn node_count(&self) -> u32 {
+        unsafe { calls::tl_node_count(self.handle()) }
+    }
+
+    /// The nodes at the top, in order: the `html`, with a doctype and comments before and behind it.
+    pub fn children(&self) -> Children<'_> {
+        Children::new(self.nodes().next())
+    }
+
+    /// All nodes, in the order of the page: each comes before what is below it.
+    pub fn nodes(
         &self,
-        make: impl FnOnce(&[u32]) -> T,
-        call: impl FnMut(*mut u32, usize, *mut usize) -> u8,
-    ) -> Result<T, u8> {
-        let mut numbers = self.numbers.borrow_mut();
-        numbers.clear();
-        numbers.try_reserve(self.page_len / 3 + 1).map_err(|_| 3)?;
-        match calls::fill(&mut numbers, call) {
-            calls::DONE => Ok(make(&numbers)),
-            status => Err(status),
-        }
+    ) -> impl DoubleEndedIterator<Item = Node<'_>> + ExactSizeIterator + FusedIterator + Clone {
+        self.nodes_of(0..self.node_count())
     }
 
-    /// The nodes at the top, in order.
-    pub fn children(&self) -> Result<Children<'_>, Error> {
-        let first = self.links()?.first().map(|_| 0);
-        Ok(Children::new(self, first))
+    // The nodes of some numbers.
+    pub(crate) fn nodes_of(
+        &self,
+        numbers: Range<u32>,
+    ) -> impl DoubleEndedIterator<Item = Node<'_>> + ExactSizeIterator + FusedIterator + Clone {
+        numbers.map(|number| Node::new(self, number))
     }
 
-    /// All nodes, in the order of the page.
-    pub fn nodes(&self) -> Result<impl Iterator<Item = Node<'_>>, Error> {
-        Ok((0..self.links()?.len() as u32).map(|number| Node::new(self, number)))
-    }
-
-    /// The texts of the page, in order.
+    /// The texts of the page, one after the other, without those in a `template`: also what `script` and `style` hold.
     pub fn text(&self) -> Result<String, Error> {
-        let mut all = String::new();
-        for child in self.children()? {
-            let text = child.text()?;
-            all.try_reserve(text.len())
-                .map_err(|_| Error::OutOfMemory)?;
-            all.push_str(&text);
-        }
-        Ok(all)
+        let root = self.children().find(|it| it.kind() == Kind::Element);
+        root.map_or(Ok(String::new()), Node::text)
     }
 
-    // Where each node stands, by its number. That is made once.
-    pub(crate) fn links(&self) -> Result<&[Links], Error> {
-        if let Some(links) = self.links.get() {
-            return Ok(links);
-        }
-        // (each node has a byte of the page)
-        let mut links = calls::items(self.page_len + 1, |links, room, needed| unsafe {
-            calls::tl_links(self.handle(), links, room, needed)
+    /// The whole page as markup, as browsers serialize its tree.
+    pub fn html(&self) -> Result<String, Error> {
+        self.answered(calls::text_in, |out, room, needed| unsafe {
+            calls::tl_document_html(self.handle(), out, room, needed)
         })
-        .map_err(calls::error_of)?;
-        links.shrink_to_fit();
-        Ok(self.links.get_or_init(|| links))
+        .map_err(calls::error_of)
     }
 
     // What is made of the bytes that a call answers, or the status that is none.
     pub(crate) fn answered<T>(
         &self,
-        make: impl FnOnce(&[u8]) -> T,
+        make: impl FnOnce(&[u8]) -> Result<T, u8>,
         call: impl FnMut(*mut u8, usize, *mut usize) -> u8,
     ) -> Result<T, u8> {
         let mut bytes = self.bytes.borrow_mut();
-        bytes.clear();
-        bytes.try_reserve(self.page_len + 64).map_err(|_| 3)?;
+        if bytes.capacity() == 0 {
+            *bytes = calls::with_room(self.page_len + 64)?;
+        }
         match calls::fill(&mut bytes, call) {
-            calls::DONE => Ok(make(&bytes)),
+            calls::DONE => make(&bytes),
             status => Err(status),
         }
-    }
-
-    // What a call answers of a node, as it stands in the document.
-    pub(crate) fn of_node(&self, call: OfNode, node: u32) -> Result<String, u8> {
-        self.answered(
-            |bytes| calls::text_of(bytes.to_vec()),
-            |out, room, needed| unsafe { call(self.handle(), node, out, room, needed) },
-        )
-    }
-
-    // What a name, a value or a text of the document says.
-    pub(crate) fn decoded(&self, decode: OfBytes, coded: String) -> Result<String, Error> {
-        // (a text without these says what it is)
-        if !self.is_form || !coded.contains(['&', '+', '\r', '\0']) {
-            return Ok(coded);
-        }
-        calls::text(coded.len(), |out, room, needed| unsafe {
-            decode(coded.as_ptr(), coded.len(), out, room, needed)
-        })
-    }
-
-    // A key as the document has it.
-    pub(crate) fn coded_key(&self, key: &str) -> Result<String, Error> {
-        if !self.is_form || key.bytes().all(|it| it.is_ascii_lowercase() || it == b'-') {
-            return Ok(key.to_owned());
-        }
-        calls::text(3 * key.len(), |out, room, needed| unsafe {
-            calls::tl_code_name(key.as_ptr(), key.len(), out, room, needed)
-        })
     }
 }
 

@@ -21,14 +21,13 @@ pub enum Error {
         /// Why.
         cause: Cause,
     },
-    /// The page, or what it is written down as while it is read, has more than 4294967295 bytes.
+    /// The page, or of a change what it is written down as while it is read, has more than 4294967295 bytes.
     TooLong,
-    /// Memory ran out.
+    /// The tree of the page is far larger than the page: thousands of tags that are never closed, and are opened again in each of a
+    /// hundred paragraphs, make such a tree.
+    OutOfProportion,
+    /// Memory ran out, or the numbers of 32 bits for the parts of a tree did.
     OutOfMemory,
-    /// Of [`as_is`](crate::as_is) alone: lines say no steps.
-    NoSteps,
-    /// Of [`as_is`](crate::as_is) alone: a step asks for a node or a place that isn't there or makes a circle, or a selector is none.
-    Refused,
 }
 
 impl fmt::Display for Error {
@@ -40,9 +39,8 @@ impl fmt::Display for Error {
             Error::NoPolicy(reason) => write!(f, "no policy: {reason}"),
             Error::NotChanged { place, cause } => write!(f, "at byte {place}: {cause}"),
             Error::TooLong => f.write_str("the page is too long"),
+            Error::OutOfProportion => f.write_str("the tree of the page is out of proportion"),
             Error::OutOfMemory => f.write_str("out of memory"),
-            Error::NoSteps => f.write_str("these lines are no steps"),
-            Error::Refused => f.write_str("refused"),
         }
     }
 }

@@ -7,6 +7,7 @@
 //! for link in document.select("li > a[href]")? {
 //!     assert_eq!(link.text()?, "Bread & butter");
 //!     assert_eq!(link.attribute("href")?.as_deref(), Some("/x?a=1&b"));
+//!     assert_eq!(link.outer_html()?, "<a href=\"/x?a=1&amp;b\">Bread &amp; butter</a>");
 //! }
 //! assert_eq!(tlhtml::sanitize("<p onclick=f()>I <3 <script>y</script>it")?, "<p>I &lt;3 it</p>");
 //! # Ok::<(), tlhtml::Error>(())
@@ -15,10 +16,12 @@
 //! What is asked is answered by `libtl`, whose calls are proved to answer what their contracts say, for every page. This crate lends it
 //! what it asks for; it is not proved, and its `unsafe` stands in calls of the library alone.
 //!
-//! No call panics, and where memory runs out that is an answer: [`Error::OutOfMemory`]. Names, values and texts are given as the
-//! characters that they stand for, so `&amp;` is `&`, and names are in lower case, as browsers give them.
+//! A [`Document`] is the tree that a browser builds of a page: an `html`, a `head`, a `body` and a `tbody` stand in it also where the page
+//! has no tag of theirs, and what is misnested stands where browsers put it. Values and texts are the characters that they say, so
+//! `&amp;` is `&`.
+//!
+//! No call panics, and where the library runs out of memory that is an answer: [`Error::OutOfMemory`].
 
-pub mod as_is;
 mod calls;
 mod document;
 mod error;
@@ -28,7 +31,7 @@ mod policy;
 
 pub use document::Document;
 pub use error::{Cause, Error};
-pub use node::{Attribute, Children, Kind, Node};
+pub use node::{Attribute, Children, Kind, Namespace, Node};
 pub use patch::{Content, Edit, edit, set_attribute, unset_attribute};
 pub use policy::{Lists, Policy, Reason, sanitize_by};
 
@@ -43,7 +46,11 @@ pub use policy::{Lists, Policy, Reason, sanitize_by};
 /// # Ok::<(), tlhtml::Error>(())
 /// ```
 pub fn sanitize(page: &str) -> Result<String, Error> {
-    calls::of_page(calls::tl_sanitize_html, page)
+    let (at, len) = (page.as_ptr(), page.len());
+    calls::text(calls::room_of(page), |out, room, needed| unsafe {
+        calls::tl_sanitize_html(at, len, out, room, needed)
+    })
+    .map_err(|status| calls::page_error_of(status, page))
 }
 
 /// The version of the library that is linked.
@@ -51,4 +58,5 @@ pub fn version() -> Result<String, Error> {
     calls::text(16, |out, room, needed| unsafe {
         calls::tl_version(out, room, needed)
     })
+    .map_err(calls::error_of)
 }

@@ -1,26 +1,42 @@
 //! Nodes.
-use crate::calls;
+use crate::calls::{self, Link, OfNode};
 use crate::{Document, Error};
+use std::borrow::Cow;
 use std::fmt;
-use std::iter::FusedIterator;
+use std::hash::{Hash, Hasher};
+use std::iter::{FusedIterator, successors};
+use std::ops::Range;
+use std::ptr::NonNull;
 
 /// What a node is.
-#[derive(Clone, Copy, Debug, PartialEq, Eq)]
+#[derive(Clone, Copy, Debug, PartialEq, Eq, Hash)]
 pub enum Kind {
-    Tag,
+    Element,
     Text,
     Comment,
+    Doctype,
+    /// The contents of a `template`: the one child of that element, in which stands what is written in it.
+    Contents,
 }
 
-/// An attribute of a tag.
-#[derive(Clone, Debug, PartialEq, Eq)]
+/// The namespace of an element.
+#[derive(Clone, Copy, Debug, PartialEq, Eq, Hash)]
+pub enum Namespace {
+    Html,
+    Svg,
+    MathMl,
+}
+
+/// An attribute of an element.
+#[derive(Clone, Debug, PartialEq, Eq, Hash)]
 pub struct Attribute {
+    /// Its key as it is serialized, so `xlink:href` in a `svg`.
     pub key: String,
     /// Its value; of a key alone, as `hidden`, the empty text.
     pub value: String,
 }
 
-/// A tag, a text or a comment of a document.
+/// A node of a document: an element, a text, a comment, a doctype, or the contents of a `template`.
 #[derive(Clone, Copy)]
 pub struct Node<'d> {
     document: &'d Document,
@@ -39,126 +55,171 @@ impl<'d> Node<'d> {
 
     pub fn kind(self) -> Kind {
         match unsafe { calls::tl_node_kind(self.document.handle(), self.number) } {
-            1 => Kind::Tag,
+            1 => Kind::Element,
             2 => Kind::Text,
-            _ => Kind::Comment,
+            3 => Kind::Comment,
+            4 => Kind::Doctype,
+            _ => Kind::Contents,
         }
     }
 
-    /// The name of a tag, in lower case; `None` of a text or a comment.
+    /// The namespace of an element.
+    pub fn namespace(self) -> Option<Namespace> {
+        match unsafe { calls::tl_node_namespace(self.document.handle(), self.number) } {
+            1 => Some(Namespace::Html),
+            2 => Some(Namespace::Svg),
+            3 => Some(Namespace::MathMl),
+            _ => None,
+        }
+    }
+
+    /// The name of an element, of HTML in lower case; `None` of any other node.
     pub fn name(self) -> Result<Option<String>, Error> {
-        self.found(self.document.of_node(calls::tl_node_name, self.number))?
-            .map(|name| self.document.decoded(calls::tl_decode_name, name))
-            .transpose()
+        found(self.bytes(calls::tl_node_name))
     }
 
-    /// The value at a key, whose letters count in any case; `None` where there is no such key.
+    /// The value at a key, as `xlink:href`, whose letters count in any case at an element of HTML; `None` where there is no such key.
     pub fn attribute(self, key: &str) -> Result<Option<String>, Error> {
-        let key = self.document.coded_key(key)?;
-        self.value(&key)
-    }
-
-    // The value at a key as the document has it. A key alone is refused as a value.
-    fn value(self, key: &str) -> Result<Option<String>, Error> {
+        let (document, key) = (self.document, self.key(key));
         let (at, len) = (key.as_ptr(), key.len());
-        let found = self.document.answered(
-            |bytes| calls::text_of(bytes.to_vec()),
-            |out, room, needed| unsafe {
-                calls::tl_attribute(
-                    self.document.handle(),
-                    self.number,
-                    at,
-                    len,
-                    out,
-                    room,
-                    needed,
-                )
-            },
-        );
-        match self.found(found)? {
-            Some(value) => self
-                .document
-                .decoded(calls::tl_decode_value, value)
-                .map(Some),
-            None if unsafe { calls::tl_node_key(self.document.handle(), self.number, at, len) }
-                == 1 =>
-            {
-                Ok(Some(String::new()))
-            }
-            None => Ok(None),
-        }
+        found(
+            document.answered(calls::text_in, |out, room, needed| unsafe {
+                calls::tl_attribute(document.handle(), self.number, at, len, out, room, needed)
+            }),
+        )
     }
 
     /// Whether a key stands there, with a value or without one.
-    pub fn has_attribute(self, key: &str) -> Result<bool, Error> {
-        let key = self.document.coded_key(key)?;
-        Ok(unsafe {
-            calls::tl_node_key(self.document.handle(), self.number, key.as_ptr(), key.len())
-        } != 0)
+    pub fn has_attribute(self, key: &str) -> bool {
+        let (handle, key) = (self.document.handle(), self.key(key));
+        let (at, len, out) = (key.as_ptr(), key.len(), NonNull::dangling().as_ptr());
+        let mut needed = 0;
+        let status =
+            unsafe { calls::tl_attribute(handle, self.number, at, len, out, 0, &mut needed) };
+        matches!(status, calls::DONE | calls::NO_ROOM)
     }
 
-    /// All of a tag in order; none of a text or a comment.
+    // A key as it stands there: of an element of HTML in lower case.
+    fn key(self, key: &str) -> Cow<'_, str> {
+        let is_upper = key.bytes().any(|it| it.is_ascii_uppercase());
+        if is_upper && self.namespace() == Some(Namespace::Html) {
+            return Cow::Owned(key.to_ascii_lowercase());
+        }
+        Cow::Borrowed(key)
+    }
+
+    /// All of an element in the order of its tag; none of any other node.
     pub fn attributes(self) -> Result<Vec<Attribute>, Error> {
         let document = self.document;
-        let pairs = document
-            .answered(calls::pairs_in, |out, room, needed| unsafe {
+        document
+            .answered(calls::attributes_in, |out, room, needed| unsafe {
                 calls::tl_node_attributes(document.handle(), self.number, out, room, needed)
             })
-            .map_err(calls::error_of)?;
-        pairs
-            .into_iter()
-            .map(|(key, value)| {
-                let key = document.decoded(calls::tl_decode_name, key)?;
-                let value = document.decoded(calls::tl_decode_value, value)?;
-                Ok(Attribute { key, value })
-            })
-            .collect()
+            .map_err(calls::error_of)
     }
 
-    /// The texts at or below it, in order, without comments.
+    /// What a text or a comment says; of any other node what the texts below it say, one after the other, without those in a `template`
+    /// below it. A doctype says nothing.
     pub fn text(self) -> Result<String, Error> {
-        let text = self
-            .document
-            .of_node(calls::tl_node_text, self.number)
-            .map_err(calls::error_of)?;
-        self.document.decoded(calls::tl_decode_text, text)
+        self.bytes(calls::tl_node_text).map_err(calls::error_of)
     }
 
-    /// It as markup.
-    pub fn html(self) -> Result<String, Error> {
-        self.document
-            .of_node(calls::tl_node_html, self.number)
+    /// It as markup, as browsers serialize it.
+    pub fn outer_html(self) -> Result<String, Error> {
+        self.bytes(calls::tl_node_outer_html)
             .map_err(calls::error_of)
     }
 
-    /// What is inside as markup; of a text or a comment its own.
+    /// What is inside as markup, of a `template` its contents. Nothing is inside of a text, a comment or a doctype.
     pub fn inner_html(self) -> Result<String, Error> {
-        self.document
-            .of_node(calls::tl_node_inner_html, self.number)
+        self.bytes(calls::tl_node_inner_html)
             .map_err(calls::error_of)
     }
 
-    /// The tag that it stands in.
-    pub fn parent(self) -> Result<Option<Node<'d>>, Error> {
-        let parent = self.document.links()?[self.number as usize].parent;
-        Ok(node_of(self.document, parent))
+    // What such a call answers of it.
+    fn bytes(self, call: OfNode) -> Result<String, u8> {
+        let document = self.document;
+        document.answered(calls::text_in, |out, room, needed| unsafe {
+            call(document.handle(), self.number, out, room, needed)
+        })
     }
 
-    /// The node behind it in the same tag.
-    pub fn next_sibling(self) -> Result<Option<Node<'d>>, Error> {
-        let next = self.document.links()?[self.number as usize].next;
-        Ok(node_of(self.document, next))
+    /// The bytes of the page that it comes from: of an element its start tag, of a comment and of a doctype all of it, of a text what
+    /// stands between the two tags, comments or doctypes where it begins. `None` where no tag stands for the element, as for a `tbody`
+    /// that browsers put in, and for the contents of a `template`.
+    ///
+    /// ```
+    /// let page = "<table><TR id=a><td>x";
+    /// let document = tlhtml::Document::parse(page)?;
+    /// let row = document.first("table > tbody > tr")?.unwrap();
+    /// assert_eq!(&page[row.source().unwrap()], "<TR id=a>");
+    /// assert_eq!(row.parent().unwrap().source(), None);
+    /// # Ok::<(), tlhtml::Error>(())
+    /// ```
+    pub fn source(self) -> Option<Range<usize>> {
+        let (mut start, mut end) = (0, 0);
+        let handle = self.document.handle();
+        let status = unsafe { calls::tl_node_source(handle, self.number, &mut start, &mut end) };
+        (status == calls::DONE).then_some(start..end)
+    }
+
+    /// The node that it stands in.
+    pub fn parent(self) -> Option<Node<'d>> {
+        self.linked(calls::tl_node_parent)
+    }
+
+    /// The first node in it.
+    pub fn first_child(self) -> Option<Node<'d>> {
+        self.linked(calls::tl_node_first_child)
+    }
+
+    /// The node behind it in what it stands in.
+    pub fn next_sibling(self) -> Option<Node<'d>> {
+        self.linked(calls::tl_node_next_sibling)
+    }
+
+    /// The node before it there. That takes a time linear in how deep the tree is.
+    pub fn prev_sibling(self) -> Option<Node<'d>> {
+        self.linked(calls::tl_node_previous_sibling)
+    }
+
+    // The node that such a call says.
+    fn linked(self, call: Link) -> Option<Node<'d>> {
+        match unsafe { call(self.document.handle(), self.number) } {
+            calls::NO_NODE => None,
+            number => Some(Node::new(self.document, number)),
+        }
     }
 
     /// The nodes in it, in order.
-    pub fn children(self) -> Result<Children<'d>, Error> {
-        self.document.links()?;
-        let first = unsafe { calls::tl_node_child(self.document.handle(), self.number) };
-        Ok(Children::new(self.document, Some(first)))
+    pub fn children(self) -> Children<'d> {
+        Children::new(self.first_child())
     }
 
-    /// The tags below it where a selector of CSS holds, in order. The selector is asked of the whole page, so it may name what stands
-    /// around.
+    /// The nodes that it stands in, from the innermost out.
+    pub fn ancestors(self) -> impl FusedIterator<Item = Node<'d>> + Clone {
+        successors(self.parent(), |it| it.parent())
+    }
+
+    /// All nodes below it, in the order of the page; it is none of them.
+    pub fn descendants(
+        self,
+    ) -> impl DoubleEndedIterator<Item = Node<'d>> + ExactSizeIterator + FusedIterator + Clone {
+        let end = unsafe { calls::tl_node_end(self.document.handle(), self.number) };
+        self.document.nodes_of(self.number + 1..end)
+    }
+
+    /// The elements below it where a selector of CSS holds, in order, without those in a `template` below it. The selector is asked of the
+    /// whole page, so it may name what stands around. `:scope` is the node, and `> li` is `:scope > li`.
+    ///
+    /// ```
+    /// let document = tlhtml::Document::parse("<ul><li>1<ul><li>2</ul></ul>")?;
+    /// let list = document.first("ul")?.unwrap();
+    /// assert_eq!(list.select("li")?.len(), 2);
+    /// assert_eq!(list.select("> li")?, list.select(":scope > li")?);
+    /// assert_eq!(list.select("> li")?.len(), 1);
+    /// # Ok::<(), tlhtml::Error>(())
+    /// ```
     pub fn select(self, selector: &str) -> Result<Vec<Node<'d>>, Error> {
         let (at, len) = (selector.as_ptr(), selector.len());
         let (document, node) = (self.document, self.number);
@@ -186,6 +247,15 @@ impl<'d> Node<'d> {
         })
     }
 
+    /// Of it and the elements that it stands in the innermost one where a selector of CSS holds. `:scope` is the node.
+    pub fn closest(self, selector: &str) -> Result<Option<Node<'d>>, Error> {
+        let (at, len) = (selector.as_ptr(), selector.len());
+        let (document, node) = (self.document, self.number);
+        document.selected_one(|number, place, cause| unsafe {
+            calls::tl_node_closest_css(document.handle(), node, at, len, number, place, cause)
+        })
+    }
+
     /// Whether a selector of CSS holds at it. All but one of a name, ids, classes and keys (`li.a[href]`) is asked of the whole page.
     pub fn matches(self, selector: &str) -> Result<bool, Error> {
         let (at, len) = (selector.as_ptr(), selector.len());
@@ -200,14 +270,14 @@ impl<'d> Node<'d> {
             }
         })
     }
+}
 
-    // What was found, or none where that is refused.
-    fn found(self, found: Result<String, u8>) -> Result<Option<String>, Error> {
-        match found {
-            Ok(text) => Ok(Some(text)),
-            Err(calls::REFUSED) => Ok(None),
-            Err(status) => Err(calls::error_of(status)),
-        }
+// What was found, or none where that is refused.
+fn found(found: Result<String, u8>) -> Result<Option<String>, Error> {
+    match found {
+        Ok(text) => Ok(Some(text)),
+        Err(calls::REFUSED) => Ok(None),
+        Err(status) => Err(calls::error_of(status)),
     }
 }
 
@@ -220,14 +290,17 @@ impl PartialEq for Node<'_> {
 
 impl Eq for Node<'_> {}
 
+impl Hash for Node<'_> {
+    fn hash<H: Hasher>(&self, state: &mut H) {
+        std::ptr::hash(self.document, state);
+        self.number.hash(state);
+    }
+}
+
 impl fmt::Debug for Node<'_> {
     fn fmt(&self, f: &mut fmt::Formatter<'_>) -> fmt::Result {
         write!(f, "Node({})", self.number)
     }
-}
-
-fn node_of(document: &Document, number: u32) -> Option<Node<'_>> {
-    (number != calls::NO_NODE).then(|| Node::new(document, number))
 }
 
 /// Nodes that stand one behind the other.
@@ -237,10 +310,8 @@ pub struct Children<'d> {
 }
 
 impl<'d> Children<'d> {
-    pub(crate) fn new(document: &'d Document, first: Option<u32>) -> Children<'d> {
-        Children {
-            next: first.and_then(|first| node_of(document, first)),
-        }
+    pub(crate) fn new(first: Option<Node<'d>>) -> Children<'d> {
+        Children { next: first }
     }
 }
 
@@ -249,8 +320,7 @@ impl<'d> Iterator for Children<'d> {
 
     fn next(&mut self) -> Option<Node<'d>> {
         let node = self.next?;
-        // (the links are there, since children were asked for)
-        self.next = node.next_sibling().ok().flatten();
+        self.next = node.next_sibling();
         Some(node)
     }
 }

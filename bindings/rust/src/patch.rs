@@ -24,7 +24,7 @@ pub fn unset_attribute(page: &str, selector: &str, key: &str) -> Result<String, 
 fn patch(edit: u8, page: &str, selector: &str, key: &str, value: &str) -> Result<String, Error> {
     let key = key.to_ascii_lowercase();
     let (mut place, mut cause) = (0, 0);
-    let patched = calls::items(calls::room_of(page), |out, room, needed| unsafe {
+    let patched = calls::text(calls::room_of(page), |out, room, needed| unsafe {
         calls::tl_patch_css(
             edit,
             selector.as_ptr(),
@@ -42,9 +42,7 @@ fn patch(edit: u8, page: &str, selector: &str, key: &str, value: &str) -> Result
             &mut cause,
         )
     });
-    patched
-        .map(calls::text_of)
-        .map_err(|status| error_of(status, place, cause))
+    patched.map_err(|status| error_of(status, place, cause))
 }
 
 // Why a page isn't changed.
@@ -133,7 +131,7 @@ pub fn edit(page: &str, selector: &str, edit: Edit<'_>) -> Result<String, Error>
         _ => Cow::Borrowed(content),
     };
     let (mut place, mut cause) = (0, 0);
-    let edited = calls::items(calls::room_of(page), |out, room, needed| unsafe {
+    let edited = calls::text(calls::room_of(page), |out, room, needed| unsafe {
         calls::tl_edit_css(
             number,
             form,
@@ -150,7 +148,5 @@ pub fn edit(page: &str, selector: &str, edit: Edit<'_>) -> Result<String, Error>
             &mut cause,
         )
     });
-    edited
-        .map(calls::text_of)
-        .map_err(|status| error_of(status, place, cause))
+    edited.map_err(|status| error_of(status, place, cause))
 }

@@ -26,6 +26,7 @@ pub fn sanitize_by(policy: Policy, page: &str) -> Result<String, Error> {
     calls::text(calls::room_of(page), |out, room, needed| unsafe {
         calls::tl_sanitize_html_by(policy as u8, page.as_ptr(), page.len(), out, room, needed)
     })
+    .map_err(|status| calls::page_error_of(status, page))
 }
 
 impl Policy {
@@ -124,12 +125,12 @@ impl<'w> Lists<'w> {
     /// What a policy of these lists keeps of a page. Lists that are no policy are [`Error::NoPolicy`].
     pub fn sanitize(&self, page: &str) -> Result<String, Error> {
         let (lists, mut cause) = (self.lent(), 0);
-        let safe = calls::items(calls::room_of(page), |out, room, needed| unsafe {
+        let safe = calls::text(calls::room_of(page), |out, room, needed| unsafe {
             let (at, len) = (page.as_ptr(), page.len());
             calls::tl_sanitize_html_with(&lists, at, len, out, room, needed, &mut cause)
         });
-        safe.map(calls::text_of).map_err(|status| match cause {
-            0 => calls::error_of(status),
+        safe.map_err(|status| match cause {
+            0 => calls::page_error_of(status, page),
             cause => Error::NoPolicy(Reason::of_number(cause)),
         })
     }
@@ -144,11 +145,11 @@ impl<'w> Lists<'w> {
     /// ```
     pub fn refused_word(&self) -> Result<Option<(String, Reason)>, Error> {
         let (lists, mut cause) = (self.lent(), 0);
-        let word = calls::items(64, |out, room, needed| unsafe {
+        let word = calls::text(64, |out, room, needed| unsafe {
             calls::tl_refused_word(&lists, out, room, needed, &mut cause)
         });
         match word {
-            Ok(word) => Ok(Some((calls::text_of(word), Reason::of_number(cause)))),
+            Ok(word) => Ok(Some((word, Reason::of_number(cause)))),
             Err(calls::REFUSED) => Ok(None),
             Err(status) => Err(calls::error_of(status)),
         }
@@ -224,4 +225,14 @@ reasons! {
     MalformedPrefix = 11, "no prefix: it is a letter of a-z, and then letters and `-`";
     /// Links are marked at `rel`, which is no listed key, or a link key.
     UnlistedMark = 12, "links can't be marked at this key: it is no listed key, or a link key";
+    /// `tbody`, `thead` or `tfoot` of this table is missing, so rows lose their texts.
+    NoTableBody = 13, "`tbody`, `thead` or `tfoot` of this table is missing, so rows lose their texts";
+    /// `tr` of this table is missing, so rows lose their texts.
+    NoRow = 14, "`tr` of this table is missing, so rows lose their texts";
+    /// `td` or `th` of this table is missing, so cells lose their texts.
+    NoCell = 15, "`td` or `th` of this table is missing, so cells lose their texts";
+    /// `caption` of this table is missing, so captions lose their texts.
+    NoCaption = 16, "`caption` of this table is missing, so captions lose their texts";
+    /// `table` is missing, in which alone this tag may stand.
+    NoTable = 17, "`table` is missing, in which alone this tag may stand";
 }

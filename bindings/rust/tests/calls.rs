@@ -1,9 +1,9 @@
 //! Each call once and more, with what comes of pages that people write.
+use std::collections::HashSet;
 use std::thread;
-use tlhtml::as_is::{self, Field};
 use tlhtml::{
-    Cause, Content, Document, Edit, Error, Kind, Policy, Reason, edit, sanitize, sanitize_by,
-    set_attribute, unset_attribute, version,
+    Cause, Content, Document, Edit, Error, Kind, Namespace, Node, Policy, Reason, edit, sanitize,
+    sanitize_by, set_attribute, unset_attribute, version,
 };
 
 const PAGE: &str =
@@ -37,55 +37,237 @@ fn selectors() {
         Ok("3 < 4")
     );
     assert_eq!(document.select("[\\@click]").unwrap().len(), 1);
+    assert_eq!(document.select(":scope"), document.select("html"));
     let wrong = Error::NoSelector {
         place: 3,
         cause: Cause::NoPseudoClass,
     };
     assert_eq!(document.select("li:hover"), Err(wrong));
+    assert_eq!(document.first("li:hover"), Err(wrong));
     assert_eq!(
         wrong.to_string(),
         "no selector: at byte 3: no such pseudo-class"
     );
+    let (place, cause) = (0, Cause::NoSelector);
+    assert_eq!(
+        document.select("> li"),
+        Err(Error::NoSelector { place, cause })
+    );
 }
 
 #[test]
+#[allow(clippy::mutable_key_type)] // (a node is hashed by where its document is, and its number)
 fn nodes() {
     let document = Document::parse(PAGE).unwrap();
-    let top: Vec<_> = document.children().unwrap().collect();
+    let top: Vec<_> = document.children().collect();
+    assert_eq!(top, document.select("html").unwrap());
+    let body = document.first("body").unwrap().unwrap();
+    let parts: Vec<_> = body.children().collect();
     assert_eq!(
-        top.iter().map(|it| it.kind()).collect::<Vec<_>>(),
-        [Kind::Tag, Kind::Comment, Kind::Tag]
+        parts.iter().map(|it| it.kind()).collect::<Vec<_>>(),
+        [Kind::Element, Kind::Comment, Kind::Element]
     );
-    assert_eq!(top[1].name(), Ok(None));
-    assert_eq!(top[1].html().as_deref(), Ok("<!-- c -->"));
-    let item = top[0].children().unwrap().next().unwrap();
-    assert_eq!(item.parent(), Ok(Some(top[0])));
-    assert_eq!(top[0].parent(), Ok(None));
-    assert_eq!(
-        item.next_sibling().unwrap().unwrap().html().as_deref(),
-        Ok("<li>3 &lt; 4</li>")
-    );
-    assert_eq!(
-        item.next_sibling()
-            .unwrap()
-            .unwrap()
-            .inner_html()
-            .as_deref(),
-        Ok("3 &lt; 4")
-    );
+    let (list, comment, last) = (parts[0], parts[1], parts[2]);
+    assert_eq!(comment.name(), Ok(None));
+    assert_eq!(comment.outer_html().as_deref(), Ok("<!-- c -->"));
+    assert_eq!(comment.text().as_deref(), Ok(" c "));
+    let item = list.first_child().unwrap();
+    let second = item.next_sibling().unwrap();
+    assert_eq!(second.outer_html().as_deref(), Ok("<li>3 &lt; 4</li>"));
+    assert_eq!(second.inner_html().as_deref(), Ok("3 &lt; 4"));
+    assert_eq!(second.prev_sibling(), Some(item));
+    assert_eq!((item.prev_sibling(), second.next_sibling()), (None, None));
+    assert_eq!((item.parent(), top[0].parent()), (Some(list), None));
+    assert_eq!(item.ancestors().collect::<Vec<_>>(), [list, body, top[0]]);
     assert_eq!(item.text().as_deref(), Ok("x & y"));
-    let text = item.children().unwrap().next().unwrap();
+    let text = item.children().next().unwrap();
     assert_eq!((text.kind(), text.name()), (Kind::Text, Ok(None)));
+    assert_eq!(text.text().as_deref(), Ok("x & y"));
+    assert_eq!(text.outer_html().as_deref(), Ok("x &amp; y"));
+    assert_eq!(text.inner_html().as_deref(), Ok(""));
+    assert_eq!(text.first_child(), None);
+    assert_eq!(list.descendants().len(), 4);
+    assert_eq!(list.descendants().next_back(), second.first_child());
+    assert_eq!(text.descendants().len(), 0);
+    assert_eq!(last.number(), 9);
+    assert_eq!(document.nodes().len(), 11);
+    assert!(document.nodes().map(|it| it.number()).eq(0..11));
+    assert!(document.nodes().skip(1).eq(top[0].descendants()));
     let other = Document::parse(PAGE).unwrap();
-    let same = other.nodes().unwrap().nth(1).unwrap();
+    let same = other.nodes().nth(4).unwrap();
     assert!(same.number() == item.number() && same != item);
+    let set = HashSet::from([item, same, document.first("li").unwrap().unwrap()]);
+    assert_eq!(set.len(), 2);
+    assert_eq!(format!("{item:?}"), "Node(4)");
+}
+
+#[test]
+fn whole_pages() {
+    let document = Document::parse(PAGE).unwrap();
     assert_eq!(document.text().as_deref(), Ok("x & y3 < 4z"));
-    assert_eq!(top[0].select("li").unwrap().len(), 2);
-    assert!(item.select("li").unwrap().is_empty());
-    assert!(top[2].select("li").unwrap().is_empty());
-    assert_eq!(document.nodes().unwrap().count(), 8);
-    assert_eq!(document.nodes().unwrap().nth(2).unwrap().number(), 2);
-    assert_eq!(Document::parse("").unwrap().children().unwrap().count(), 0);
+    assert_eq!(
+        document.html().as_deref(),
+        Ok(concat!(
+            "<html><head></head><body><ul><li hidden=\"\" class=\"a\" @click=\"f()\" href=\"?a=1&amp;b=2&lt;\">x &amp; y</li>",
+            "<li>3 &lt; 4</li></ul><!-- c --><p>z</p></body></html>"
+        ))
+    );
+    assert!(document.is_quirks());
+    let empty = Document::parse("").unwrap();
+    assert_eq!(
+        empty.html().as_deref(),
+        Ok("<html><head></head><body></body></html>")
+    );
+    assert_eq!(empty.text().as_deref(), Ok(""));
+    assert_eq!(empty.children().count(), 1);
+    let page = "<!doctype html><!-- a --><title>b</title>";
+    let document = Document::parse(page).unwrap();
+    assert!(!document.is_quirks());
+    let kinds: Vec<_> = document.children().map(|it| it.kind()).collect();
+    assert_eq!(kinds, [Kind::Doctype, Kind::Comment, Kind::Element]);
+    let doctype = document.nodes().next().unwrap();
+    assert_eq!(doctype.outer_html().as_deref(), Ok("<!DOCTYPE html>"));
+    assert_eq!(
+        (doctype.text().as_deref(), doctype.name()),
+        (Ok(""), Ok(None))
+    );
+    assert_eq!(doctype.source(), Some(0..15));
+    assert_eq!(document.text().as_deref(), Ok("b"));
+}
+
+/// Without a doctype classes and ids hold in any case. A byte order mark is no part of the tree, and counts in places.
+#[test]
+fn quirks_and_marks() {
+    let found = |page: &str, selector| {
+        Document::parse(page)
+            .unwrap()
+            .select(selector)
+            .map(|it| it.len())
+    };
+    let (quirky, standard) = (
+        "\u{feff}<p class=A id=B>x",
+        "<!DOCTYPE html><p class=A id=B>x",
+    );
+    assert_eq!(
+        (found(quirky, ".a#b"), found(standard, ".a#b")),
+        (Ok(1), Ok(0))
+    );
+    assert_eq!(found(standard, ".A#B"), Ok(1));
+    let document = Document::parse(quirky).unwrap();
+    assert_eq!(document.text().as_deref(), Ok("x"));
+    assert_eq!(document.first("p").unwrap().unwrap().source(), Some(3..19));
+}
+
+/// What browsers put in, and where what stands in the page comes from.
+#[test]
+fn tables() {
+    let page = "<p>a &amp; b<table id=t><TR CLASS=r><td>1<td>2<!-- é --></table>";
+    let document = Document::parse(page).unwrap();
+    let row = document.first("table > tbody > tr").unwrap().unwrap();
+    assert_eq!(document.select("#t > tbody > tr > td").unwrap().len(), 2);
+    assert!(document.select("table > tr").unwrap().is_empty());
+    let body = row.parent().unwrap();
+    assert_eq!(body.name().unwrap().as_deref(), Some("tbody"));
+    assert_eq!((body.source(), body.attributes()), (None, Ok(vec![])));
+    let place = |node: Node<'_>| node.source().map(|it| page[it].to_string());
+    assert_eq!(place(row).as_deref(), Some("<TR CLASS=r>"));
+    let cell = row.first(":scope > td:last-child").unwrap().unwrap();
+    let said: Vec<_> = cell.children().map(place).collect();
+    assert_eq!(
+        said,
+        [Some("2".to_string()), Some("<!-- é -->".to_string())]
+    );
+    let text = document.first("p").unwrap().unwrap().first_child();
+    assert_eq!(place(text.unwrap()).as_deref(), Some("a &amp; b"));
+    assert_eq!(document.first("head").unwrap().unwrap().source(), None);
+}
+
+#[test]
+fn namespaces() {
+    let page = concat!(
+        "<svg viewbox='0 0 1 1'><title>an <b>icon</b></title><use XLINK:HREF=#a href=#b></use></svg>",
+        "<math><mi>x</mi></math><p>y"
+    );
+    let document = Document::parse(page).unwrap();
+    let spaces: Vec<_> = ["svg", "svg > title", "use", "math > mi", "p"]
+        .into_iter()
+        .map(|it| document.first(it).unwrap().unwrap().namespace())
+        .collect();
+    let (html, svg, math) = (Namespace::Html, Namespace::Svg, Namespace::MathMl);
+    assert_eq!(spaces, [svg, svg, svg, math, html].map(Some));
+    let icon = document.first("svg").unwrap().unwrap();
+    let bold = icon.first("title > b").unwrap().unwrap();
+    assert_eq!(bold.namespace(), Some(html));
+    assert_eq!(bold.first_child().unwrap().namespace(), None);
+    assert_eq!(
+        icon.attribute("viewBox").unwrap().as_deref(),
+        Some("0 0 1 1")
+    );
+    assert_eq!(icon.attribute("viewbox"), Ok(None));
+    let used = document.first("use").unwrap().unwrap();
+    assert_eq!(used.attribute("xlink:href").unwrap().as_deref(), Some("#a"));
+    assert_eq!(used.attribute("href").unwrap().as_deref(), Some("#b"));
+    let keys: Vec<_> = used
+        .attributes()
+        .unwrap()
+        .into_iter()
+        .map(|it| it.key)
+        .collect();
+    assert_eq!(keys, ["xlink:href", "href"]);
+    assert_eq!(
+        used.outer_html().as_deref(),
+        Ok("<use xlink:href=\"#a\" href=\"#b\"></use>")
+    );
+}
+
+#[test]
+fn templates() {
+    let document = Document::parse("<template id=t><p class=a>x</p>y</template><p>z").unwrap();
+    let template = document.first("#t").unwrap().unwrap();
+    let contents = template.first_child().unwrap();
+    assert_eq!(
+        (contents.kind(), contents.name(), contents.source()),
+        (Kind::Contents, Ok(None), None)
+    );
+    assert_eq!(template.children().count(), 1);
+    assert_eq!(
+        template.inner_html().as_deref(),
+        Ok("<p class=\"a\">x</p>y")
+    );
+    assert_eq!(contents.inner_html(), template.inner_html());
+    assert_eq!(
+        template.outer_html().as_deref(),
+        Ok("<template id=\"t\"><p class=\"a\">x</p>y</template>")
+    );
+    assert_eq!(document.select("p").unwrap().len(), 1);
+    assert!(template.select("p").unwrap().is_empty());
+    let inside = contents.first("p.a").unwrap().unwrap();
+    assert_eq!(inside.parent(), Some(contents));
+    assert_eq!(contents.parent(), Some(template));
+    assert_eq!(inside.matches("p.a"), Ok(true));
+    assert_eq!(
+        (template.text().as_deref(), contents.text().as_deref()),
+        (Ok(""), Ok("xy"))
+    );
+    assert_eq!(document.text().as_deref(), Ok("z"));
+}
+
+/// What stands in a script and a style is printed as it is.
+#[test]
+fn raw_texts() {
+    let page = "<script>if (a < b && c) f(\"<p>\")</script><style>a > b {}</style>";
+    let document = Document::parse(page).unwrap();
+    assert_eq!(
+        document.html().unwrap(),
+        format!("<html><head>{page}</head><body></body></html>")
+    );
+    let script = document.first("script").unwrap().unwrap();
+    assert_eq!(script.text().as_deref(), Ok("if (a < b && c) f(\"<p>\")"));
+    assert_eq!(script.text(), script.inner_html());
+    assert_eq!(
+        script.first_child().unwrap().outer_html(),
+        script.inner_html()
+    );
 }
 
 #[test]
@@ -96,31 +278,43 @@ fn below_a_node() {
     assert_eq!(list.select("li"), document.select("li"));
     assert_eq!(
         list.first("body li + li, ul > li + li"),
-        item.next_sibling()
+        Ok(item.next_sibling())
     );
     assert_eq!((list.first("ul"), item.first("*")), (Ok(None), Ok(None)));
+    assert_eq!(list.select("> li"), document.select("li"));
+    assert_eq!(list.first("> li"), Ok(Some(item)));
+    assert_eq!(list.select(":scope > li:first-child"), Ok(vec![item]));
+    assert_eq!(
+        (item.select("+ li"), item.first("~ li")),
+        (Ok(vec![]), Ok(None))
+    );
     for (selector, wanted) in [
         ("li", true),
         ("LI[href].a", true),
         ("ul > :first-child", true),
+        (":scope", true),
         ("ul", false),
         ("p, li + li", false),
     ] {
         assert_eq!(item.matches(selector), Ok(wanted));
     }
-    let text = item.children().unwrap().next().unwrap();
+    let text = item.children().next().unwrap();
     assert_eq!(
         (text.matches("*"), text.select("*")),
         (Ok(false), Ok(vec![]))
     );
+    assert_eq!(text.closest("li"), Ok(Some(item)));
+    assert_eq!(item.closest("li"), Ok(Some(item)));
+    assert_eq!(item.closest("ul:has(:scope)"), Ok(Some(list)));
+    assert_eq!(item.closest("p"), Ok(None));
     let wrong = Error::NoSelector {
         place: 3,
         cause: Cause::NoPseudoClass,
     };
     assert_eq!(item.select("li:hover"), Err(wrong));
     assert_eq!(item.first("li:hover"), Err(wrong));
+    assert_eq!(item.closest("li:hover"), Err(wrong));
     assert_eq!(item.matches("li:hover"), Err(wrong));
-    assert_eq!(document.first("li:hover"), Err(wrong));
 }
 
 #[test]
@@ -134,32 +328,30 @@ fn attributes() {
     assert_eq!(item.attribute("@click").unwrap().as_deref(), Some("f()"));
     assert_eq!(item.attribute("hidden").unwrap().as_deref(), Some(""));
     assert_eq!(item.attribute("id"), Ok(None));
-    assert_eq!(
-        (item.has_attribute("hidden"), item.has_attribute("id")),
-        (Ok(true), Ok(false))
-    );
-    let mut keys: Vec<_> = item
+    assert!(item.has_attribute("hidden") && item.has_attribute("Href"));
+    assert!(!item.has_attribute("id") && !item.has_attribute(""));
+    let pairs: Vec<_> = item
         .attributes()
         .unwrap()
         .into_iter()
         .map(|it| (it.key, it.value))
         .collect();
-    keys.sort();
     let wanted = [
-        ("@click", "f()"),
-        ("class", "a"),
         ("hidden", ""),
+        ("class", "a"),
+        ("@click", "f()"),
         ("href", "?a=1&b=2<"),
     ];
     assert_eq!(
-        keys,
+        pairs,
         wanted.map(|(key, value)| (key.to_string(), value.to_string()))
     );
-    let text = item.children().unwrap().next().unwrap();
+    let text = item.children().next().unwrap();
     assert_eq!(
-        (text.attribute("id"), text.attributes().unwrap().len()),
-        (Ok(None), 0)
+        (text.attribute("id"), text.attributes()),
+        (Ok(None), Ok(vec![]))
     );
+    assert!(!text.has_attribute("id"));
 }
 
 #[test]
@@ -167,10 +359,6 @@ fn safe_pages() {
     assert_eq!(
         sanitize("I <3 <A HREF=/x>é").as_deref(),
         Ok("I &lt;3 <a href=\"/x\">é</a>")
-    );
-    assert_eq!(
-        as_is::sanitize("<p onclick=f()>é<script>y</script>").as_deref(),
-        Ok("<p>é</p>")
     );
     assert_eq!(sanitize(&"<".repeat(5000)).map(|it| it.len()), Ok(20000));
     let page = "<h1>a</h1><table><tr><td>b";
@@ -229,6 +417,8 @@ fn lists_of_ones_own() {
         (lists.link_keys("src"), "href", Reason::LinkKey),
         (web.link_prefixes("data:"), "data:", Reason::ActiveScheme),
         (web.id_prefix("é"), "é", Reason::MalformedPrefix),
+        (lists.tags("p,table"), "table", Reason::NoTableBody),
+        (lists.tags("p,td"), "td", Reason::NoTable),
     ] {
         assert_eq!(lists.sanitize(page), Err(Error::NoPolicy(reason)));
         assert_eq!(lists.refused_word(), Ok(Some((word.to_string(), reason))));
@@ -277,7 +467,11 @@ fn elements() {
     );
     let (place, cause) = (5, Cause::Misread);
     assert_eq!(
-        edit("<svg><style>a</style></svg>", "style", Edit::Fill(Content::Text("<"))),
+        edit(
+            "<svg><style>a</style></svg>",
+            "style",
+            Edit::Fill(Content::Text("<"))
+        ),
         Err(Error::NotChanged { place, cause })
     );
     let (place, cause) = (2, Cause::NoPseudoClass);
@@ -301,12 +495,22 @@ fn texts_of_errors() {
             "no policy: no policy may list this key: its value is a script",
         ),
         (Error::TooLong, "the page is too long"),
+        (
+            Error::OutOfProportion,
+            "the tree of the page is out of proportion",
+        ),
         (Error::OutOfMemory, "out of memory"),
-        (Error::NoSteps, "these lines are no steps"),
-        (Error::Refused, "refused"),
     ] {
         assert_eq!(error.to_string(), wanted);
     }
+}
+
+/// A page whose tags are never closed, and are opened again in each paragraph.
+#[test]
+fn a_tree_out_of_proportion() {
+    let fonts: String = (0..2_000).map(|it| format!("<font size={it}>")).collect();
+    let page = format!("<p>{fonts}{}", "<p>x".repeat(100));
+    assert_eq!(Document::parse(&page).err(), Some(Error::OutOfProportion));
 }
 
 /// A tag of many keys, whose attributes come in one answer.
@@ -357,49 +561,6 @@ fn changes() {
 }
 
 #[test]
-fn pages_as_they_are() {
-    assert_eq!(
-        as_is::print("abc <p>test<span>a</p>").as_deref(),
-        Ok("abc <p>test<span>a</span></p>")
-    );
-    assert_eq!(as_is::print("").as_deref(), Ok(""));
-    assert_eq!(as_is::text("a<p>b<br>c</p>").as_deref(), Ok("abc"));
-    assert_eq!(
-        as_is::edit("set 0 href /x", "<a>y</a>").as_deref(),
-        Ok("<a href=\"/x\">y</a>")
-    );
-    assert_eq!(as_is::edit("push 0 0", "<a></a>"), Err(Error::Refused));
-    assert_eq!(as_is::edit("push 0", "<a></a>"), Err(Error::NoSteps));
-    let page = "<p>x<b a=\"/x\">y</b></p><p>z";
-    for (selector, field, wanted) in [
-        ("p", Field::InnerText, vec!["xy", "z"]),
-        ("p", Field::Number, vec!["0", "4"]),
-        ("b", Field::OuterHtml, vec!["<b a=\"/x\">y</b>"]),
-        ("b", Field::InnerHtml, vec!["y"]),
-        ("b", Field::Attribute("a"), vec!["/x"]),
-    ] {
-        assert_eq!(
-            as_is::select(selector, field, page),
-            Ok(wanted.into_iter().map(String::from).collect())
-        );
-    }
-    assert_eq!(as_is::select(",", Field::Number, ""), Err(Error::Refused));
-    let document = as_is::parse("<A b>&amp;</A>").unwrap();
-    assert_eq!(as_is::find(&document, "A"), Ok(vec![0]));
-    assert_eq!(as_is::find(&document, ","), Err(Error::Refused));
-    let tag = document.nodes().unwrap().next().unwrap();
-    assert_eq!(tag.text().as_deref(), Ok("&amp;"));
-    assert_eq!(
-        (tag.attribute("b"), tag.attribute("c")),
-        (Ok(Some(String::new())), Ok(None))
-    );
-    assert_eq!(
-        (tag.has_attribute("b"), tag.has_attribute("c")),
-        (Ok(true), Ok(false))
-    );
-}
-
-#[test]
 fn long_answers() {
     let long = "z".repeat(100_000);
     let document = Document::parse(&format!("<b>{long}</b>{}", "<i>&lt;".repeat(1000))).unwrap();
@@ -409,9 +570,17 @@ fn long_answers() {
         document.select("i").unwrap()[0].text(),
         Ok("<".repeat(1000))
     );
+    assert_eq!(document.select("*").unwrap().len(), 1004);
+    let quotes = format!("<p>{}", "&quot;&lt;".repeat(50_000));
+    let document = Document::parse(&quotes).unwrap();
     assert_eq!(
-        as_is::edit(&format!("text 0 {}", "y".repeat(5000)), "x").map(|page| page.len()),
-        Ok(5000)
+        document.first("p").unwrap().unwrap().inner_html(),
+        Ok("\"&lt;".repeat(50_000))
+    );
+    let longer = Document::parse(&"\u{a0}".repeat(50_000)).unwrap();
+    assert_eq!(
+        longer.first("body").unwrap().unwrap().inner_html(),
+        Ok("&nbsp;".repeat(50_000))
     );
 }
 

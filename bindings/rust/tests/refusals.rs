@@ -3,7 +3,7 @@
 
 use std::ffi::c_long;
 use std::fmt::Debug;
-use tlhtml::{Content, Document, Edit, Error, Policy, as_is, edit, sanitize};
+use tlhtml::{Content, Document, Edit, Error, Policy, edit, sanitize};
 
 const PAGE: &str = "<ul><LI class=a @click=f() href='?a=1&b'>x &amp; y<LI>3 < 4</UL><p>z";
 
@@ -12,8 +12,9 @@ unsafe extern "C" {
     fn tl_test_left() -> c_long;
 }
 
-// A call that is refused memory answers that or does without, and answers as before in the end.
-fn check<T: PartialEq + Debug>(call: impl Fn() -> Result<T, Error>) {
+// A call that is refused memory answers that or does without, and answers as before in the end. What is returned is whether it takes
+// some.
+fn is_refused<T: PartialEq + Debug>(call: impl Fn() -> Result<T, Error>) -> bool {
     let wanted = call();
     let mut is_refused = false;
     for number in 0.. {
@@ -27,7 +28,18 @@ fn check<T: PartialEq + Debug>(call: impl Fn() -> Result<T, Error>) {
             break;
         }
     }
-    assert!(wanted.is_ok() && is_refused);
+    assert!(wanted.is_ok());
+    is_refused
+}
+
+// A call that takes memory of the library.
+fn check<T: PartialEq + Debug>(call: impl Fn() -> Result<T, Error>) {
+    assert!(is_refused(call));
+}
+
+// A call that takes none.
+fn check_none<T: PartialEq + Debug>(call: impl Fn() -> T) {
+    assert!(!is_refused(|| Ok(call())));
 }
 
 #[test]
@@ -43,16 +55,18 @@ fn each_call() {
     check(|| document.first("ul > li"));
     check(|| item.select("ul > li"));
     check(|| item.first("ul > li"));
+    check(|| item.closest("ul > li"));
     check(|| item.matches("ul > li"));
     check(|| item.text());
-    check(|| item.html());
+    check(|| item.outer_html());
     check(|| item.inner_html());
     check(|| item.attributes());
-    check(|| item.attribute("@click"));
-    check(|| Document::parse(PAGE)?.nodes().map(Iterator::count));
-    check(|| as_is::edit("set 0 a b", "<p>x"));
-    check(|| as_is::print(PAGE));
-    check(|| as_is::text(PAGE));
-    check(|| as_is::sanitize(PAGE));
+    check(|| document.html());
+    check_none(|| item.attribute("@click"));
+    check_none(|| (item.name(), item.kind(), item.namespace(), item.source()));
+    check_none(|| (item.parent(), item.first_child(), item.next_sibling()));
+    check_none(|| (item.prev_sibling(), item.has_attribute("HREF")));
+    check_none(|| (item.ancestors().count(), item.descendants().count()));
+    check_none(|| (document.nodes().len(), document.is_quirks()));
     assert_eq!(item.text().as_deref(), Ok("x & y"));
 }
