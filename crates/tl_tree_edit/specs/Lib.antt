@@ -1,0 +1,7 @@
+pub mod Lists
+pub mod Bare
+pub mod Changes
+pub mod Elements
+pub mod Examples
+pub mod View
+pub mod Inner
