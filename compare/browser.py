@@ -7,7 +7,7 @@ Each is handed to Chromium as it stands and once it is sanitized: as a document 
 there once more as the browser writes it. It says of how many pages a script ran, and of how many a link would run one.
 It is sanitized by the policy of a blog, and with links marked. Of that it says too which elements, keys and comments there are
 beyond the policy's lists, whether html5lib's tokenizer reads the tags and keys that were written, and whether sanitizer.py, written
-from docs/SAFE.md alone, prints the same of the page's form, as html_form.py has it.
+from docs/SAFE.md alone, prints the same.
 
 With --trees it looks instead at N pages for each of five policies whose tags are nested wrongly (misnested.py): whether the plain
 sanitizer prints the same, and whether the trees that Chromium builds of the print are those that it was printed of: put
@@ -29,8 +29,6 @@ from tools.transcripts import rows_of
 from tools.workspace import ROOT, Stop, text_of
 
 from .chromium import Missing, all_answers, chromium, version
-from .fitting import Unchanged
-from .html_form import html_form
 from .markup import tags_read, tags_written, tree_said, tree_with_values_as_texts
 from .misnested import POLICIES, misnested
 from .sanitizer import Policy, safe_print
@@ -102,11 +100,6 @@ def policy(program, words=()):
     return Policy(said_by([program, "sanitize", *words, "--policy"]).splitlines())
 
 
-def plainly(page, lists, *how):
-    """What the plain sanitizer prints of a page's form."""
-    return safe_print(html_form(page).encode(), lists, *how).decode()
-
-
 def judged(browser, pages):
     """What is seen in Chromium of each page."""
     # A script of the page calls `parent.stolen(N)`.
@@ -130,14 +123,14 @@ def look_at_trees(given, browser, called):
     tags = POLICIES[called]
     words = ["--tags", tags.replace(" ", ",")] if tags else []
     lists = policy(given.program, words)
-    names = sorted(name.decode() for name in lists.tags)
+    names = sorted(lists.tags)
     chance = random.Random(f"{called} {given.seed}")
     pages = [misnested(chance, names) if chance.random() < 0.9 else made_up(chance) for _ in range(given.trees)]
     prints = sanitized(given.program, pages, words)
-    kept = [plainly(page, lists, Unchanged) for page in pages]
+    kept = [safe_print(page, lists, list) for page in pages]
     wrong = []
     for page, text in zip(pages, prints):
-        if text != plainly(page, lists):
+        if text != safe_print(page, lists):
             wrong.append((len(page), f"the plain sanitizer prints another page: {page!r} is printed as {text!r}"))
     all_seen = trees_seen(browser, prints)
     for page, text, (tree, seen) in zip(pages, prints, all_seen):
@@ -160,11 +153,11 @@ def look_at_trees(given, browser, called):
 def look_at_pages(program, browser, pages, words):
     """What Chromium runs and builds of pages, as they stand and as they are printed by a policy that these words say."""
     lists = policy(program, words)
-    elements, keys = ({word.decode() for word in listed} for listed in (lists.tags, lists.keys))
+    elements, keys = set(lists.tags), set(lists.keys)
     prints = sanitized(program, pages, words)
     wrong = 0
     for page, text in zip(pages, prints):
-        if text != plainly(page, lists):
+        if text != safe_print(page, lists):
             print(f"browser: the plain sanitizer prints another page: {page!r} is printed as {text!r}")
             wrong += 1
         tags = tags_written(text)

@@ -20,7 +20,7 @@ POLICIES = {
     "tables": f"a abbr b blockquote br code dd div dl dt em h1 h2 h3 hr i img li ol p pre q span strong ul {TABLES}",
     "ruby": f"a b br div em i p span ul ol {RUBY} {LISTS} {PREFORMATTED} {HEADINGS}",
     "all": f"{BLOCKS} {PHRASES} {TABLES} {RUBY} {LISTS} {PREFORMATTED} {HEADINGS} {VOID} p",
-    "rows": "table td caption b p a li",
+    "rows": "table caption tbody thead tfoot tr td th b p a li",
 }
 
 TEXTS = [

@@ -1,20 +1,21 @@
-"""A plain sanitizer by the rules of docs/SAFE.md, over the plain reader of reader.py: what `tl sanitize` has to print of a page.
+"""A plain sanitizer by the rules of docs/SAFE.md, over the plain trees of tree_model.py: what `tl sanitize` has to print of a page.
 
 It is written from those two pages alone, and knows nothing of how the crates do it.
 """
 import re
 
-from .fitting import Writer
-from .reader import VOID, Document
+from .fitting import PREFORMATTED, is_flow, may_stand
+from .serializer import VOID, escaped
+from .tree_model import Builder
 
-OPAQUE = b"script style textarea title xmp iframe noembed noframes noscript plaintext svg math".split()
+OPAQUE = "script style textarea title xmp iframe noembed noframes noscript plaintext template".split()
 
 
 class Policy:
-    """Lists of words, as bytes, by the names of the options that say them."""
+    """Lists of words by the names of the options that say them."""
 
     def __init__(self, lines):
-        words = {option: said.encode().split(b",") for option, _, said in (line.partition(" ") for line in lines)}
+        words = {option: said.split(",") for option, _, said in (line.partition(" ") for line in lines)}
         self.tags, self.keys, self.link_keys = words["--tags"], words["--keys"], words["--link-keys"]
         self.links, self.prefix = words["--links"], words["--prefix"][0]
         self.lets_relative = "--relative-links" in words
@@ -22,61 +23,84 @@ class Policy:
 
     def begins_link(self, value):
         """Whether a link begins as it may: where it leaves the site, what it begins with does so too."""
-        leaves = re.compile(rb"/[/\\&<>]")
+        leaves = re.compile(r"/[/\\]")
         return any(value.startswith(front) and (leaves.match(front) or not leaves.match(value)) for front in self.links)
 
     def is_relative(self, value):
         """Whether a link is a relative one, and such may stand: neither a scheme nor another host stands at its front."""
-        front = re.match(rb"[^/?#]*", value).group()
-        return self.lets_relative and value != b"" and not re.search(rb"[:&\\<>]", front) and not re.match(rb"/[/\\&<>]", value)
+        front = re.match(r"[^/?#]*", value).group()
+        return self.lets_relative and value != "" and not re.search(r"[:\\]", front) and not re.match(r"/[/\\]", value)
 
     def keeps(self, key, value):
-        """Whether a key stays with its value, which may be None."""
-        if key not in self.keys:
-            return False
-        value = value or b""
-        if any(byte in value for byte in b'"\0\x1b'):
-            return False
+        """Whether a key stays with its value."""
         is_link = self.begins_link(value) or self.is_relative(value)
-        if key in self.link_keys and not (is_link and all(32 < byte < 127 for byte in value)):
+        if key not in self.keys or (key in self.link_keys and not (is_link and re.fullmatch(r"[!#-~]*", value))):
             return False
-        return key not in (b"id", b"name", b"class") or bool(value.startswith(self.prefix) and re.fullmatch(rb"[A-Za-z0-9_-]*", value))
+        return key not in ("id", "name", "class") or bool(value.startswith(self.prefix) and re.fullmatch(r"[A-Za-z0-9_-]*", value))
+
+    def pairs(self, node):
+        """The attributes that stay; those of a link after the mark, where the policy wants it."""
+        kept = [(key, cleaned(value)) for key, value in node.attributes.items() if self.keeps(key, cleaned(value))]
+        if self.marks_links and node.name in ("a", "area") and any(key == "href" for key, _ in kept):
+            return [("rel", "nofollow noopener")] + [pair for pair in kept if pair[0] != "rel"]
+        return kept
 
 
-def written(value):
-    """A value with references for `<` and `>`."""
-    return value.replace(b"<", b"&lt;").replace(b">", b"&gt;")
+def cleaned(text):
+    return text.replace("\r", " ").replace("\0", "").replace("\x1b", "")
 
 
-def start_of(node, policy):
-    """The start tag of a tag, with the keys that stay; those of a link after the mark, where the policy wants it."""
-    kept = [(key, value) for key, value in node[2].pairs() if policy.keeps(key, value)]
-    if policy.marks_links and node[1] in (b"a", b"area") and any(key == b"href" for key, _ in kept):
-        kept = [(b"rel", b"nofollow noopener")] + [pair for pair in kept if pair[0] != b"rel"]
-    return b"<" + node[1] + b"".join(b" " + key + (b"" if value is None else b'="' + written(value) + b'"') for key, value in kept) + b">"
+def kept(nodes, policy):
+    """What is kept of nodes: texts, and elements as their names, attributes and what is in them."""
+    out = []
+    for node in nodes:
+        if node.kind == "text":
+            out.append(cleaned(node.data))
+        elif node.is_html() and node.name in policy.tags:
+            out.append((node.name, policy.pairs(node), kept(node.children, policy)))
+        elif node.is_html() and node.name not in OPAQUE:
+            out += kept(node.children, policy)
+    return out
 
 
-def safe_print(page, policy, how=Writer):
-    """What is kept of a page, made to stay, printed."""
-    document, writer = Document(page), how(policy.tags)
-    work = [("meet", handle) for handle in reversed(document.top)]
-    while work:
-        what, it = work.pop()
-        if what == "leave":
-            writer.leave(it)
+def unlined(nodes):
+    """Nodes without the line feeds at their front."""
+    for at, node in enumerate(nodes):
+        if not isinstance(node, str) or node.lstrip("\n"):
+            return [node.lstrip("\n") if isinstance(node, str) else node] + nodes[at + 1:]
+    return []
+
+
+def fitted(nodes, names=()):
+    """What is made to stay of nodes in elements of these names."""
+    out = []
+    for node in nodes:
+        if isinstance(node, str):
+            out.append(node if is_flow(names) else "".join(it for it in node if it in " \t\n\f\r"))
             continue
-        node = document.nodes[it]
-        if node[0] == "text":
-            writer.text(bytes(byte for byte in node[1] if byte not in b"<\0\x1b"))
-        elif node[0] == "tag":
-            if node[1] in policy.tags:
-                count = writer.tag(node[1], start_of(node, policy), node[1] in VOID)
-                if node[1] in VOID:
-                    continue
-                if count is not None:
-                    work.append(("leave", count))
-            elif node[1].lower() in OPAQUE:
-                continue
-            work += [("meet", child) for child in reversed(node[3])]
-    writer.end_beyond(0)
-    return b"".join(writer.out)
+        name, pairs, below = node
+        if not may_stand(name, names):
+            out += fitted(below, names)
+            continue
+        below = fitted(below, (*names, name))
+        out.append((name, pairs, unlined(below) if name in PREFORMATTED else below))
+    return out
+
+
+def printed(nodes):
+    out = []
+    for node in nodes:
+        if isinstance(node, str):
+            out.append(escaped(node, False))
+            continue
+        name, pairs, below = node
+        keys = "".join(f' {key}="{escaped(value, True)}"' for key, value in pairs)
+        out.append(f"<{name}{keys}>" if name in VOID else f"<{name}{keys}>{printed(below)}</{name}>")
+    return "".join(out)
+
+
+def safe_print(page, policy, how=fitted):
+    """What is kept of a page as what a `div` holds, made to stay, printed."""
+    builder = Builder(page.removeprefix("\ufeff"), "div")
+    builder.run()
+    return printed(how(kept(builder.document.children[0].children, policy)))

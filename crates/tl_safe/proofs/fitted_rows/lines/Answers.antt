@@ -1,7 +1,0 @@
-use Rattle.std.proofs.Common.{refl}
-use Rattle.std.specs.Char.{encode_utf8}
-use Rattle.tl_safe.proofs.fitted_rows.lines.Goals as goal
-
-pub returns-clause-reference : goal.returns-clause-reference
-unfolding encode_utf8
-returns-clause-reference c = refl

@@ -1,6 +1,0 @@
-use Rattle.std.proofs.Common.{◌≡◌, drop}
-use Rattle.tl_safe.specs.Lists.{has_colon}
-use Rattle.tl_safe.proofs.names.has_colon.Given as goal
-
-abbrev pub invariant-loop-byte : goal.invariant-loop-byte
-invariant-loop-byte l = has_colon l.word ≡ has_colon (drop l.byte-index l.word)

@@ -1,6 +1,0 @@
-use Rattle.std.proofs.Common.{◌≡◌, drop}
-use Rattle.tl_safe.specs.Lists.{has_no_scheme}
-use Rattle.tl_safe.proofs.names.has_no_scheme.Given as goal
-
-abbrev pub invariant-loop-byte : goal.invariant-loop-byte
-invariant-loop-byte l = has_no_scheme l.link ≡ has_no_scheme (drop l.byte-index l.link)

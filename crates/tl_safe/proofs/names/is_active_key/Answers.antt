@@ -1,4 +1,0 @@
-use Rattle.tl_safe.proofs.names.is_active_key.Goals as goal
-
-pub returns : goal.returns
-returns c = c.is_among.ensures

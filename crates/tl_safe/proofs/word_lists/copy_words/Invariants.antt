@@ -1,7 +1,0 @@
-use Rattle.std.proofs.Common.{◌≡◌, ◌++◌, drop}
-use Rattle.tl_safe.specs.Names.{words_of}
-use Rattle.tl_safe.proofs.word_lists.copy_words.Given as goal
-
--- the words so far, and then those that are left
-abbrev pub invariant-loop-word : goal.invariant-loop-word
-invariant-loop-word l = words_of l.own ≡ words_of l.found.items ++ words_of (drop l.word-index l.own)

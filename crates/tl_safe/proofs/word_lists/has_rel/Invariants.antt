@@ -1,7 +1,0 @@
-use Rattle.std.proofs.Common.{◌≡◌, drop}
-use Rattle.tl_safe.specs.Names.{words_of}
-use Rattle.tl_safe.specs.ListOptions.{has_rel}
-use Rattle.tl_safe.proofs.word_lists.has_rel.Given as goal
-
-abbrev pub invariant-loop-key : goal.invariant-loop-key
-invariant-loop-key l = has_rel (words_of l.keys) ≡ has_rel (words_of (drop l.key-index l.keys))
