@@ -35,6 +35,7 @@ enum FormCall {
     Tokens,
     Tree,
     Fragment,
+    OwnedTree,
     Print,
     Pretty,
     Lines,
@@ -46,7 +47,7 @@ enum FormCall {
 type Row = (&'static str, FormCall, &'static [u8], &'static [u8]);
 
 #[rattlefmt::skip]
-static ROWS: [Row; 30] = [
+static ROWS: [Row; 31] = [
     ("escape_text", FormCall::EscapeText, b"a<b&c", b"a&lt;b&amp;c"),
     ("escape_value", FormCall::EscapeValue, b"a\"b", b"a&quot;b"),
     ("unescape_text", FormCall::UnescapeText, b"a&lt;b", b"a<b"),
@@ -72,10 +73,11 @@ static ROWS: [Row; 30] = [
     ("Tree::read", FormCall::Tree, b"<p>a", b"a"),
     ("Tree::read, all kinds of nodes", FormCall::Tree, b"<!DOCTYPE html PUBLIC 'x'><!--a\r--><body class=k><table>a&lt;<tr><td><b>b<p>c</b>d<svg viewbox=x><![CDATA[e]]></svg></table><template><td></template><body id=l>f", b"f"),
     ("Tree::read_fragment, a template with an attribute", FormCall::Fragment, b"<td>a&lt;", b"a<"),
+    ("Tree::into_owned", FormCall::OwnedTree, b"<p class=k>a&lt;", b"a<"),
     ("write_document", FormCall::Print, b"<!DOCTYPE html><p a='<&\"'>b &nbsp;<br><script>c<d", b"<!DOCTYPE html><html><head></head><body><p a=\"&lt;&amp;&quot;\">b &nbsp;<br><script>c<d</script></p></body></html>"),
     ("decode, UTF-8", FormCall::Decode(Encoding::Utf8), b"caf\xC3\xA9", b"caf\xC3\xA9"),
     ("decode, windows-1252", FormCall::Decode(Encoding::Windows1252), b"caf\xE9 \x80", b"caf\xC3\xA9 \xE2\x82\xAC"),
-    ("write_pretty", FormCall::Pretty, b"<!DOCTYPE html><div> <p>b <i>c</i></p><pre>d</pre></div>", b"<!DOCTYPE html>\n<html>\n  <head></head>\n  <body>\n    <div>\n      <p>b <i>c</i></p>\n      <pre>d</pre>\n    </div>\n  </body>\n</html>"),
+    ("write_pretty", FormCall::Pretty, b"<!DOCTYPE html><div> <p>b <i>c</i></p><pre>d</pre></div>", b"<!DOCTYPE html>\n<html>\n  <head></head>\n  <body>\n    <div>\n      <p>b <i>c</i></p>\n      <pre>d</pre>\n    </div>\n  </body>\n</html>\n"),
     ("LineIndex::new", FormCall::Lines, b"a\nb\xC3\xA9", b"\x02\x03"),
 ];
 
@@ -90,6 +92,7 @@ pub fn call(number: usize, case: &mut Case) -> Option<Named> {
         FormCall::Tokens => read_tokens(row, case),
         FormCall::Tree => read_tree(row, case),
         FormCall::Fragment => read_fragment(row, case),
+        FormCall::OwnedTree => own_tree(row, case),
         FormCall::Decode(encoding) => decode_page(encoding, row, case),
         _ => make(row, case),
     };
@@ -196,6 +199,14 @@ fn read_fragment(row: &Row, case: &mut Case) -> Result<(), Stop> {
         case,
         Tree::read_fragment(case.alloc(), text, TEMPLATE, FLAGS)
     );
+    let tree = answer?;
+    value(tree.text(tree.len() - 1) == Some(wanted))
+}
+
+fn own_tree(row: &Row, case: &mut Case) -> Result<(), Stop> {
+    let (_, _, page, wanted) = *row;
+    let lent = Tree::read(case.alloc(), page, FLAGS)?;
+    let answer = measured!(case, lent.into_owned(case.alloc()));
     let tree = answer?;
     value(tree.text(tree.len() - 1) == Some(wanted))
 }

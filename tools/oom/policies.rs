@@ -1,14 +1,19 @@
-//! Policies and their lists, words that are looked up, and pages made safe.
+//! Policies and their lists, words that are looked up, and texts and trees made safe.
 use crate::case::Case;
 use crate::stop::{Stop, value};
 use crate::{Named, measured};
-use tl_safe::{ListTexts, Lists, Policy, WordLists, lines_of, sanitize};
 use tl_safe_fit::WordIndex;
+use tl_tree::{Flags, Tree};
+use tl_tree_safe::{
+    ListTexts, Lists, Policy, WordLists, lines_of, sanitize, sanitize_fragment,
+};
 
 // What is called.
 #[derive(Clone, Copy)]
 enum PolicyCall {
     Sanitize,
+    SanitizeFragment,
+    Policy,
     Lists,
     Lines,
     Index,
@@ -18,9 +23,13 @@ enum PolicyCall {
 type Row = (&'static str, PolicyCall, &'static str, &'static str);
 
 #[rattlefmt::skip]
-static ROWS: [Row; 6] = [
-    ("sanitize, nothing", PolicyCall::Sanitize, "<script>x</script>", ""),
-    ("sanitize", PolicyCall::Sanitize, "<p id=user-i onclick=x>a</p><script>y</script><a href=\"https://c\">d</a>", "<p id=\"user-i\">a</p><a href=\"https://c\">d</a>"),
+static ROWS: [Row; 10] = [
+    ("tl_tree_safe::sanitize, nothing", PolicyCall::Sanitize, "<script>x</script>", ""),
+    ("tl_tree_safe::sanitize", PolicyCall::Sanitize, "<p id=user-i onclick=x>a</p><script>y</script><a href=\"https://c\">d</a>", "<p id=\"user-i\">a</p><a href=\"https://c\">d</a>"),
+    ("sanitize_fragment, nothing", PolicyCall::SanitizeFragment, "<script>x</script>", ""),
+    ("sanitize_fragment", PolicyCall::SanitizeFragment, "<p title=\"a&#13;b\">c</p>&#13;d", "<p title=\"a b\">c</p> d"),
+    ("Policy::new", PolicyCall::Policy, "b,p", ""),
+    ("Policy::new, a word that is refused", PolicyCall::Policy, "b,script", "script"),
     ("WordLists::new, lists that are not said", PolicyCall::Lists, "", "wbr"),
     ("WordLists::new", PolicyCall::Lists, "b,,p", "p"),
     ("lines_of lists", PolicyCall::Lines, "b", "--tags b\n--keys title\n--link-keys\n--links\n--prefix user-\n"),
@@ -32,7 +41,9 @@ pub fn call(number: usize, case: &mut Case) -> Option<Named> {
     let row = ROWS.get(number)?;
     let (name, call, text, wanted) = *row;
     let answer = match call {
-        PolicyCall::Sanitize => make_safe(text, wanted, case),
+        PolicyCall::Sanitize => make_tree_safe(text, wanted, case),
+        PolicyCall::SanitizeFragment => make_safe(text, wanted, case),
+        PolicyCall::Policy => judge(text, wanted, case),
         PolicyCall::Lists => read_lists(text, wanted, case),
         PolicyCall::Lines => write_lists(text, wanted, case),
         PolicyCall::Index => index(text, wanted, case),
@@ -40,10 +51,26 @@ pub fn call(number: usize, case: &mut Case) -> Option<Named> {
     Some((name, answer))
 }
 
-fn make_safe(page: &str, wanted: &str, case: &mut Case) -> Result<(), Stop> {
+fn make_tree_safe(page: &str, wanted: &str, case: &mut Case) -> Result<(), Stop> {
+    let flags = Flags {
+        is_scripting: false,
+        counts_search: true,
+    };
     let policy = Policy::blog();
-    let answer = measured!(case, sanitize(case.alloc(), &policy, page));
-    value(answer?.as_str() == wanted)
+    let tree = Tree::read(case.alloc(), page.as_bytes(), flags)?;
+    let mut out = Vec::new(case.alloc());
+    let answer = measured!(case, sanitize(case.alloc(), &policy, &tree, &mut out));
+    answer?;
+    value(out.as_slice() == wanted.as_bytes())
+}
+
+fn make_safe(text: &str, wanted: &str, case: &mut Case) -> Result<(), Stop> {
+    let policy = Policy::blog();
+    let answer = measured!(
+        case,
+        sanitize_fragment(case.alloc(), &policy, text.as_bytes())
+    );
+    value(answer?.as_slice() == wanted.as_bytes())
 }
 
 // What stands for lists of these tags, with links of no kind; where none are said, those of a blog.
@@ -58,6 +85,16 @@ fn texts(tags: &'static str) -> ListTexts<'static> {
         relative_links: false,
         nofollow_links: false,
         id_prefix: None,
+    }
+}
+
+// The word that is refused is wanted, if there is one.
+fn judge(tags: &'static str, wanted: &str, case: &mut Case) -> Result<(), Stop> {
+    let words = WordLists::new(case.alloc(), &texts(tags))?;
+    let answer = measured!(case, Policy::new(words.lists()));
+    match answer {
+        Ok(_) => value(wanted.is_empty()),
+        Err(error) => value(error.word == wanted),
     }
 }
 
