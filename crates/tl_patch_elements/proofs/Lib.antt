@@ -1,3 +1,5 @@
+pub mod Plain
+pub mod Said
 pub mod Stack
 pub mod Closing
 pub mod Texts

@@ -12,7 +12,7 @@ use Rattle.tl_html_balance.specs.declared.balance.Opening.{Opening}
 use Rattle.tl_html_balance.specs.declared.balance.Opening.TheVariants as opens
 use Rattle.tl_html_balance.specs.declared.balance.PutIn.{PutIn}
 use Rattle.tl_html_balance.specs.declared.balance.PutIn.TheVariants as puts
-use Rattle.tl_html.specs.Inner.Opened.{opened_tags, opened_tokens}
+use Rattle.tl_patch_elements.specs.Inner.Opened.{opened_tags, opened_tokens}
 use Rattle.tl_patch_spec.specs.Elements.{PlacedToken, at_piece, elements_of, ended_element, is_end_tag, tokens_at}
 use Rattle.tl_patch_elements.specs.Inner.Finding.{Finds, IsNamed, balance_of, elements_with, is_alone, is_nothing, is_paragraph, stack_of}
 use Rattle.tl_patch_elements.specs.View.{elements_view}

@@ -4,8 +4,8 @@ use Rattle.std.specs.List.{list_any}
 use Rattle.std.proofs.lemmas.Bool.{and_parts, cases_Bool, eqb-true}
 use Rattle.tl_html_spec.specs.HtmlTokenizer.{Character, EndTag, HtmlToken, is_white_space}
 use Rattle.tl_html_spec.specs.Balanced.{Balance, Names, is_head, leading, when}
-use Rattle.tl_html.specs.Inner.Written.{goes}
-use Rattle.tl_html.proofs.Plain.{dropped_emits, dropped_next, kept_emits, kept_next}
+use Rattle.tl_patch_elements.specs.Inner.Finding.{goes}
+use Rattle.tl_patch_elements.proofs.Plain.{dropped_emits, dropped_next, kept_emits, kept_next}
 use Rattle.tl_patch_spec.specs.Elements.{OpenElement, PlacedToken, at_piece, balance_after, balanced_at, elements_of, tokens_at}
 use Rattle.tl_html_balance.specs.View.{open_names}
 use Rattle.tl_patch_elements.specs.Inner.Finding.{Finds, elements_with, is_seen, stack_of}

@@ -9,8 +9,8 @@ use Rattle.tl_html_tokens.specs.declared.token.Token.{Token}
 use Rattle.tl_html_tokens.proofs.Alone.{tags_are_whole}
 use Rattle.tl_html_tokens.proofs.Telling.{tokens_said}
 use Rattle.tl_html_balance.specs.View.{open_names}
-use Rattle.tl_html.specs.Inner.Parts.{AreParts, IsPart}
-use Rattle.tl_html.proofs.Whole.{are_parts, parts_of}
+use Rattle.tl_patch_elements.specs.Inner.Parts.{AreParts, IsPart}
+use Rattle.tl_patch_elements.proofs.Said.{are_parts, parts_of}
 use Rattle.tl_patch_spec.specs.Elements.{PlacedToken, balance_after, balanced_at, balanced_in, elements, elements_of, tokens_at}
 use Rattle.tl_patch_spec.specs.Elements.{open_names as left_names}
 use Rattle.tl_patch_spec.proofs.Elements.{after_append}

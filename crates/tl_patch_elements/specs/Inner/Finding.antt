@@ -1,5 +1,5 @@
 -- Elements that are found token by token.
-use Rattle.std.specs.Prelude.{◌≡◌, ℕ, Bool, true, false, not, ◌||◌, ◌==◌, List, ◌++◌, map, reverse, ⊤}
+use Rattle.std.specs.Prelude.{◌≡◌, ℕ, Bool, true, false, not, ◌||◌, ◌&&◌, ◌==◌, List, ◌++◌, map, reverse, ⊤}
 use Rattle.tl_html_spec.specs.HtmlTokenizer.{HtmlToken, is_white_space}
 use Rattle.tl_html_spec.specs.Balanced.{Balance}
 use Rattle.tl_html_parts.specs.Parts.{name_of}
@@ -60,3 +60,7 @@ abbrev pub IsNamed : PutIn → List ℕ → Type 0
 IsNamed puts.Nothing name = ⊤
 IsNamed puts.LineBreak name = is_void name ≡ true
 IsNamed puts.Paragraph name = is_void name ≡ false
+
+-- a NUL goes, and a line feed where one goes that comes next
+abbrev pub goes : Bool → ℕ → Bool
+goes drops_feed b = (b == 0) || (drops_feed && (b == 10))

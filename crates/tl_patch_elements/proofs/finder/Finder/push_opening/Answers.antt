@@ -2,7 +2,7 @@ use Rattle.std.proofs.Common.{List, ℕ, false, ◌∷◌, ◌++◌, ap, ◌∙�
 use Rattle.tl_html_spec.specs.HtmlTokenizer.{HtmlAttribute, StartTag}
 use Rattle.tl_html_balance.specs.declared.balance.Opening.{Opening}
 use Rattle.tl_html_parts.specs.Parts.{name_of}
-use Rattle.tl_html.specs.Inner.Opened.{opened_tokens}
+use Rattle.tl_patch_elements.specs.Inner.Opened.{opened_tokens}
 use Rattle.tl_patch_spec.specs.Elements.{PlacedToken, tokens_at}
 use Rattle.tl_patch_elements.specs.Inner.Finding.{elements_with}
 use Rattle.tl_patch_elements.proofs.finder.Finder.push_opening.Goals as goal

@@ -4,7 +4,7 @@ use Rattle.tl_html_tokens.specs.Characters.{characters_of}
 use Rattle.tl_html_tokens.specs.Comments.{comment_of}
 use Rattle.tl_html_tokens.specs.Whole.{IsWhole, bytes_at}
 use Rattle.tl_html_tokens.specs.declared.stage.TokenKind.TheVariants as kind
-use Rattle.tl_html.specs.Inner.Parts.{Says}
+use Rattle.tl_patch_elements.specs.Inner.Parts.{Says}
 use Rattle.tl_patch_elements.specs.Inner.Finding.{Finds}
 use Rattle.tl_patch_elements.proofs.Tags.{comment_found, doctype_found, none_found}
 use Rattle.tl_patch_elements.proofs.finder.Finder.push_token.Goals as goal
