@@ -1,3 +1,2 @@
 pub mod Places
-pub mod Refused
-pub mod Changes
+pub mod Reasons

@@ -1,10 +1,10 @@
--- Where a source stands among all.
-use Rattle.std.proofs.Common.{◌≡◌, ℕ, List}
-use Rattle.std.specs.List.{slice_get}
-use Rattle.std.specs.Option.{option_map}
-use Rattle.std.proofs.lemmas.Option.{slice_get-map}
-use Rattle.tl_html.specs.Noted.{span_of, spans_of}
-use Rattle.tl_html.specs.declared.source.Source.{Source}
+-- Where nodes of a tree come from.
+use Rattle.std.proofs.Common.{None, arith, length, refl, suc, ℕ, ◌+◌, ◌-◌, ◌<◌, ◌≡◌}
+use Rattle.tl_patch_select.specs.Selected.{first_place, place_of}
+use Rattle.tl_tree.specs.declared.tree.Tree.{Tree}
 
-pub span_at : (sources : List Source) (n : ℕ) → slice_get (spans_of sources) n ≡ option_map span_of (slice_get sources n)
-span_at sources n = slice_get-map span_of sources n
+pub none_here : (tree : Tree) (page_len number count : ℕ) → number < count → place_of tree number ≡ None →
+    first_place tree page_len number (count - number) ≡ first_place tree page_len (number + 1) (count - (number + 1))
+none_here tree page_len number count within none =
+    let is : count - number ≡ suc (count - (number + 1)) = omega (arith, within) in
+    rw is (rw (none, first_place) refl)

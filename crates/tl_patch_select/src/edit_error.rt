@@ -1,33 +1,32 @@
 //! Why the elements where a selector holds are not changed.
 ghost use Rattle.std.specs.Prelude.{◌≡◌};
-ghost use Rattle.tl_patch_select.specs.Errors.{error_of_edit, edit_error_of_normalize};
+ghost use Rattle.tl_patch_select.specs.Errors.{error_of_edit};
+ghost use Rattle.tl_patch_select.specs.declared.edit_error.SelectionEditError.TheVariants.{OutOfMemory};
 
+use std::alloc::AllocError;
 use thiserror::Error;
-use tl_html::NormalizeError;
 use tl_patch_edit::EditError;
 
-/// Why the elements where a selector holds were not changed.
+/// Why the elements where a selector holds were not changed. Places are bytes of the page.
 #[derive(Clone, Copy, PartialEq, Eq, Debug, Error)]
 pub enum SelectionEditError {
     /// An element can't be changed so, for this reason.
     #[error("{0}")]
     Refused(EditError),
-    /// The page or its form is longer than 4294967295 bytes.
-    #[error("too long")]
-    TooLong,
+    /// The selector holds at an element that no tag stands for, as a `tbody` that the standard
+    /// puts in before the first row: it was put in before what begins at this place.
+    #[error("the element that is put in at byte {0} has no tag")]
+    Untagged(usize),
     /// Memory ran out.
     #[error("out of memory")]
     OutOfMemory,
 }
 
-impl From<NormalizeError> for SelectionEditError {
-    ghost from_gives = { λ error e. e ≡ edit_error_of_normalize error };
+impl From<AllocError> for SelectionEditError {
+    ghost from_gives = { λ _ e. e ≡ OutOfMemory };
 
-    fn from(error: NormalizeError) -> Self {
-        match error {
-            NormalizeError::TooLong => SelectionEditError::TooLong,
-            NormalizeError::OutOfMemory => SelectionEditError::OutOfMemory,
-        }
+    fn from(_: AllocError) -> Self {
+        SelectionEditError::OutOfMemory
     }
 }
 

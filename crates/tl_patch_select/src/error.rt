@@ -1,26 +1,25 @@
 //! Why the tags where a selector holds are not changed.
 ghost use Rattle.std.specs.Prelude.{◌≡◌};
-ghost use Rattle.tl_patch_select.specs.Errors.{error_of_normalize, error_of_patch};
+ghost use Rattle.tl_patch_select.specs.Errors.{error_of_patch};
 ghost use Rattle.tl_patch_select.specs.declared.error.SelectionPatchError.TheVariants.{OutOfMemory};
 
 use std::alloc::AllocError;
 use thiserror::Error;
-use tl_html::NormalizeError;
 use tl_patch::PatchError;
 
 /// Why the tags where a selector holds were not changed. Places are bytes of the page.
 #[derive(Clone, Copy, PartialEq, Eq, Debug, Error)]
 pub enum SelectionPatchError {
-    /// The selector holds at an element without a start tag in the page, which comes of an end tag
-    /// at this place, as of `</p>` alone.
+    /// The selector holds at an element that no tag stands for, as a `tbody` that the standard
+    /// puts in before the first row: it was put in before what begins at this place.
+    #[error("the element that is put in at byte {0} has no tag")]
+    Untagged(usize),
+    /// The tokenizer by itself reads no start tag at this place, where one stands in the tree.
     #[error("the element at byte {0} has no start tag")]
     NoStartTag(usize),
     /// What is to be set in the tag at this place can't be written.
     #[error("the tag at byte {0} can't be changed so")]
     NotWritten(usize),
-    /// The page or its form is longer than 4294967295 bytes.
-    #[error("too long")]
-    TooLong,
     /// Memory ran out.
     #[error("out of memory")]
     OutOfMemory,
@@ -31,17 +30,6 @@ impl From<AllocError> for SelectionPatchError {
 
     fn from(_: AllocError) -> Self {
         SelectionPatchError::OutOfMemory
-    }
-}
-
-impl From<NormalizeError> for SelectionPatchError {
-    ghost from_gives = { λ error e. e ≡ error_of_normalize error };
-
-    fn from(error: NormalizeError) -> Self {
-        match error {
-            NormalizeError::TooLong => SelectionPatchError::TooLong,
-            NormalizeError::OutOfMemory => SelectionPatchError::OutOfMemory,
-        }
     }
 }
 

@@ -1,74 +1,107 @@
-//! Where the elements of a page begin at which a selector holds.
-ghost use Rattle.std.specs.Prelude.{◌≡◌, ◌≤◌, ◌<◌, ◌⊎◌, Err, IfErr, IfOk, IsUtf8, length};
-ghost use Rattle.tl_spec.specs.Tree.Document.{document};
-ghost use Rattle.tl_css.specs.Meaning.{AreFound};
-ghost use Rattle.tl_css_select.specs.Spelling.{decoded_nodes};
-ghost use Rattle.tl_html_spec.specs.HtmlForm.{html_form};
-ghost use Rattle.tl_html.specs.Noted.{spans_of};
-ghost use Rattle.tl_html.specs.declared.error.NormalizeError.TheVariants.{OutOfMemory, TooLong};
-ghost use Rattle.tl_patch_select.specs.Selected.{AreSelected, place_of, places_of};
+//! Where the elements of a tree begin at which a selector holds.
+ghost use Rattle.std.specs.List.{Contains};
+ghost use Rattle.std.specs.List.Sorted.{IsStrictlyIncreasing};
+ghost use Rattle.std.specs.Prelude.{IfOk, length, ◌-◌, ◌≡◌, ℕ};
+ghost use Rattle.tl_patch_select.specs.Selected.{ArePlacesOf, first_place, place_of, places_of, untagged, untagged_at};
+ghost use Rattle.tl_tree.specs.TreeView.{rows_in};
+ghost use Rattle.tl_tree_select.specs.Meaning.{AreFound};
+ghost use Rattle.tl_tree_select.specs.Page.{page_of};
 
 use std::alloc::{AllocError, Global};
-use tl::{ParseError, ParserOptions};
 use tl_css::Selector;
-use tl_css_select::known_forest::FreshDocument;
-use tl_html::{NormalizeError, Source, normalize_with_sources};
+use tl_tree::Tree;
+use tl_tree_select::select;
 
-// The numbers of the nodes of a page in its form where a selector holds.
-fn find(alloc: Global, form: &str, selector: &Selector) -> Result<Vec<u32>, NormalizeError>
-    requires { length form.now ≤ u32.MAX }
-    ensures found { IfOk result (λ ns.
-        AreFound (decoded_nodes (document form.now).nodes) selector.now ns.items) }
-    ensures memory { IfErr result (λ error. error ≡ OutOfMemory) }
+// Where in the page begins what a node comes from.
+fn place_of(tree: &Tree<'_>, number: usize) -> Option<usize>
+    ensures { result ≡ place_of tree.now number }
 {
-    let document = match FreshDocument::parse(alloc, form, ParserOptions::new()) {
-        Ok(document) => document,
-        Err(ParseError::OutOfMemory) => return Err(NormalizeError::OutOfMemory),
-        Err(ParseError::InvalidLength) => unreachable!(),
-    };
-    let numbers = document.forest().select_decoded(alloc, selector)?;
-    Ok(numbers)
+    let source = tree.source(number)?;
+    Some(source.start)
 }
 
-// Where in the page the node of a number begins.
-#[tactic(auto, using(crate::proofs::Places::span_at))]
-fn place_of(sources: &[Source], number: u32) -> Option<usize>
-    ensures { result ≡ place_of (spans_of sources.now) number }
+// Where in a page of such a length the first node from a number on comes from that has a place.
+fn first_place(tree: &Tree<'_>, number: usize, page_len: usize) -> usize
+    ensures { result
+        ≡ first_place tree.now page_len number (length (rows_in tree.now) - number) }
 {
-    let source = sources.get(number as usize)?;
-    Some(source.start as usize)
+    for later in number..tree.len() {
+        if let Some(place) = place_of(tree, later) {
+            return place;
+        }
+    }
+    page_len
 }
 
-// Where in the page the nodes of these numbers begin.
-fn places_of(alloc: Global, sources: &[Source], numbers: &[u32]) -> Result<Vec<usize>, AllocError>
-    ensures { IfOk result (λ places.
-        places.items ≡ places_of (spans_of sources.now) numbers.now) }
+// Where elements begin that have a place.
+fn places_of(alloc: Global, tree: &Tree<'_>, numbers: &[usize]) -> Result<Vec<usize>, AllocError>
+    ensures { IfOk result (λ places. places.items ≡ places_of tree.now numbers.now) }
 {
     let mut places = Vec::with_capacity(alloc, numbers.len())?;
     for number in numbers {
-        if let Some(place) = place_of(sources, *number) {
+        if let Some(place) = place_of(tree, *number) {
             places.push(place)?;
         }
     }
     Ok(places)
 }
 
-// Where in the page the elements begin at which the selector holds. It is asked of the page as
-// browsers read it, by its form, in which names and values are compared as what they say.
-pub(crate) fn selected(
-    alloc: Global,
-    page: &str,
-    selector: &Selector,
-) -> Result<Vec<usize>, NormalizeError>
-    ensures selected { IfOk result (λ places.
-        AreSelected selector.now page.now places.items) }
-    ensures long { u32.MAX < length page.now → result ≡ Err TooLong }
-    ensures failure { result ≡ Err TooLong
-        → (u32.MAX < length page.now) ⊎ (u32.MAX < length (html_form page.now)) }
+// The first of some elements that has no place.
+fn untagged(tree: &Tree<'_>, numbers: &[usize]) -> Option<usize>
+    ensures { result ≡ untagged tree.now numbers.now }
 {
-    let form = normalize_with_sources(alloc, page.as_bytes())?;
-    let text = unsafe { std::str::from_utf8_unchecked(form.bytes.as_slice()) };
-    let numbers = find(alloc, text, selector)?;
-    let places = places_of(alloc, form.sources.as_slice(), numbers.as_slice())?;
-    Ok(places)
+    for number in numbers {
+        if place_of(tree, *number).is_none() {
+            return Some(*number);
+        }
+    }
+    None
+}
+
+// Puts places in order, each once.
+fn put_in_order(places: &mut Vec<usize>)
+    ensures rising { IsStrictlyIncreasing places.new.items }
+    ensures kept { (place : ℕ) →
+        Contains places.old.items place → Contains places.new.items place }
+    ensures none_added { (place : ℕ) →
+        Contains places.new.items place → Contains places.old.items place }
+{
+    places.sort_unstable();
+    places.dedup();
+}
+
+/// The elements of a tree where a selector holds, and the bytes of the page at which their start
+/// tags begin, in order.
+#[derive(Drop)]
+pub(crate) struct Selected {
+    pub(crate) numbers: Vec<usize>,
+    pub(crate) places: Vec<usize>,
+}
+
+impl Selected {
+    /// Where a selector holds in a tree.
+    pub(crate) fn of(
+        alloc: Global,
+        tree: &Tree<'_>,
+        selector: &Selector,
+    ) -> Result<Selected, AllocError>
+        ensures found { IfOk result (λ own.
+            AreFound (page_of tree.now) selector.now own.numbers.items) }
+        ensures places { IfOk result (λ own.
+            ArePlacesOf tree.now own.numbers.items own.places.items) }
+    {
+        let numbers = select(alloc, tree, selector)?;
+        let mut places = places_of(alloc, tree, numbers.as_slice())?;
+        put_in_order(&mut places);
+        Ok(Selected { numbers, places })
+    }
+
+    /// Where an element was put in that no tag stands for, if there is one; the page has such a
+    /// length.
+    pub(crate) fn untagged_at(&self, tree: &Tree<'_>, page_len: usize) -> Option<usize>
+        ensures { result ≡ untagged_at tree.now page_len self.now.numbers.items }
+    {
+        let number = untagged(tree, self.numbers.as_slice())?;
+        Some(first_place(tree, number, page_len))
+    }
 }
