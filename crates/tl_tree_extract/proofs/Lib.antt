@@ -11,3 +11,5 @@ pub mod Chains
 pub mod Depths
 pub mod Slots
 pub mod Rising
+pub mod Lengths
+pub mod Formed

@@ -3,3 +3,4 @@ pub mod Runs
 pub mod Open
 pub mod Depths
 pub mod Slots
+pub mod Kept

@@ -2,6 +2,7 @@
 #![tactic(auto)]
 
 mod candidates;
+mod cell_words;
 mod column;
 mod element_words;
 pub mod examples;
@@ -25,6 +26,7 @@ mod row_slots;
 mod run;
 mod sheet;
 mod span;
+mod table_error;
 mod tables;
 mod targets;
 pub mod text;
@@ -42,5 +44,6 @@ pub use outline::{Heading, headings, write_outline};
 pub use page_links::{Link, base, links};
 pub use sheet::{Spans, write_table};
 pub use span::Part;
+pub use table_error::TableError;
 pub use tables::{Cell, Table, TableRow, table_of, table_rows};
 pub use targets::{document_base, is_external, resolved};

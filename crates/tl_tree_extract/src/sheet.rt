@@ -1,15 +1,17 @@
 //! A table in columns: a line for each row, with a value for each slot.
-ghost use Rattle.std.specs.Prelude.{OnOk, length, ℕ, ◌++◌, ◌-◌, ◌≡◌, ◌≤◌};
+ghost use Rattle.std.specs.Prelude.{Err, OnOk, length, ℕ, ◌+◌, ◌++◌, ◌-◌, ◌<◌, ◌≡◌, ◌≤◌};
 ghost use Rattle.tl_tree.specs.TreeView.{rows_in};
+ghost use Rattle.tl_tree_extract.specs.Inner.Kept.{AreKept};
 ghost use Rattle.tl_tree_extract.specs.Inner.Slots.{AreRising, IsAtRow, IsBeforeRow};
 ghost use Rattle.tl_tree_extract.specs.Sheet.{is_said, more_slots, row_written, rows_written, slot_words, table_written, words_of_cell};
 ghost use Rattle.tl_tree_extract.specs.Table.{table_said};
+ghost use Rattle.tl_tree_extract.specs.declared.table_error.TableError.TheVariants.{TooLong};
 
+use crate::cell_words::CellWords;
 use crate::column::{Columns, put_first_value, put_separator, put_value};
-use crate::fields::Room;
 use crate::row_slots::RowSlots;
-use crate::tables::{Cell, Table, table_of};
-use crate::text::write_one_line;
+use crate::table_error::TableError;
+use crate::tables::{Cell, Table, table_within};
 use std::alloc::{AllocError, Global};
 use tl_tree::Tree;
 
@@ -20,6 +22,28 @@ pub enum Spans {
     Filled,
     /// The words of the cell in the one where it begins, and nothing in the others.
     Once,
+}
+
+/// How a table is written: behind so many bytes, and with so many bytes at most.
+#[derive(Clone, Copy)]
+struct Format {
+    columns: Columns,
+    spans: Spans,
+    start: usize,
+    limit: usize,
+}
+
+impl Format {
+    // Refuses what ends behind the last byte that may be written.
+    fn check(self, end: usize) -> Result<(), TableError>
+        ensures within { OnOk result (end ≤ self.start + self.limit) }
+        ensures long { result ≡ Err TooLong → self.start + self.limit < end }
+    {
+        if end.saturating_sub(self.start) > self.limit {
+            return Err(TableError::TooLong);
+        }
+        Ok(())
+    }
 }
 
 // Whether a cell has its words in a slot.
@@ -39,19 +63,20 @@ fn take_words(
     cell: Option<Cell>,
     column: usize,
     row: usize,
-    room: &mut Room,
+    words: &mut CellWords,
 ) -> Result<(), AllocError>
-    ensures { OnOk result (room.new.line.items
+    requires { AreKept (rows_in tree.now) words.old }
+    ensures line { OnOk result (words.new.line.items
         ≡ words_of_cell spans (rows_in tree.now) column row cell) }
+    ensures kept { OnOk result (AreKept (rows_in tree.now) words.new) }
 {
-    room.line.clear();
-    let Some(cell) = cell else {
-        return Ok(());
-    };
-    if is_said(spans, cell, column, row) {
-        write_one_line(tree, cell.node, &mut room.text, &mut room.line)?;
+    match cell {
+        Some(cell) if is_said(spans, cell, column, row) => words.take(tree, cell.node),
+        _ => {
+            words.line.clear();
+            Ok(())
+        }
     }
-    Ok(())
 }
 
 // Takes the words that a slot of a row has for the line.
@@ -62,34 +87,42 @@ fn take_slot(
     slots: &RowSlots,
     column: usize,
     row: usize,
-    room: &mut Room,
+    words: &mut CellWords,
 ) -> Result<(), AllocError>
     requires at_row { IsAtRow (table_said table.now) row slots.now }
     requires within { column ≤ table.now.width - 1 }
-    ensures { OnOk result (room.new.line.items
+    requires kept { AreKept (rows_in tree.now) words.old }
+    ensures line { OnOk result (words.new.line.items
         ≡ slot_words spans (rows_in tree.now) (table_said table.now) column row) }
+    ensures kept { OnOk result (AreKept (rows_in tree.now) words.new) }
 {
-    take_words(tree, spans, slots.cell(column), column, row, room)
+    take_words(tree, spans, slots.cell(column), column, row, words)
 }
 
 // Writes the slots of a row behind the first one.
 fn put_more(
     tree: &Tree<'_>,
-    format: (Columns, Spans),
+    format: Format,
     table: &Table,
     slots: &RowSlots,
     row: usize,
-    room: &mut Room,
+    words: &mut CellWords,
     out: &mut Vec<u8>,
-) -> Result<(), AllocError>
-    requires { IsAtRow (table_said table.now) row slots.now }
-    ensures { OnOk result (out.new.items ≡ out.old.items ++ more_slots format.0 format.1
-        (rows_in tree.now) (table_said table.now) row (table.now.width - 1)) }
+) -> Result<(), TableError>
+    requires at_row { IsAtRow (table_said table.now) row slots.now }
+    requires kept { AreKept (rows_in tree.now) words.old }
+    ensures kept { OnOk result (AreKept (rows_in tree.now) words.new) }
+    ensures written { OnOk result (out.new.items ≡ out.old.items ++ more_slots format.columns
+        format.spans (rows_in tree.now) (table_said table.now) row (table.now.width - 1)) }
+    ensures long { result ≡ Err TooLong → format.start + format.limit < length (out.old.items
+        ++ more_slots format.columns format.spans (rows_in tree.now) (table_said table.now) row
+        (table.now.width - 1)) }
 {
     for last in 0..table.width.saturating_sub(1) as usize {
-        take_slot(tree, format.1, table, slots, last + 1, row, room)?;
-        put_separator(format.0, out)?;
-        put_value(format.0, room.line.as_slice(), out)?;
+        take_slot(tree, format.spans, table, slots, last + 1, row, words)?;
+        put_separator(format.columns, out)?;
+        put_value(format.columns, words.line.as_slice(), out)?;
+        format.check(out.len())?;
     }
     Ok(())
 }
@@ -97,42 +130,52 @@ fn put_more(
 // Writes a row.
 fn put_row(
     tree: &Tree<'_>,
-    format: (Columns, Spans),
+    format: Format,
     table: &Table,
     slots: &RowSlots,
     row: usize,
-    room: &mut Room,
+    words: &mut CellWords,
     out: &mut Vec<u8>,
-) -> Result<(), AllocError>
-    requires { IsAtRow (table_said table.now) row slots.now }
-    ensures { OnOk result (out.new.items ≡ out.old.items ++ row_written format.0 format.1
-        (rows_in tree.now) (table_said table.now) row) }
+) -> Result<(), TableError>
+    requires at_row { IsAtRow (table_said table.now) row slots.now }
+    requires kept { AreKept (rows_in tree.now) words.old }
+    ensures kept { OnOk result (AreKept (rows_in tree.now) words.new) }
+    ensures written { OnOk result (out.new.items ≡ out.old.items ++ row_written format.columns
+        format.spans (rows_in tree.now) (table_said table.now) row) }
+    ensures within { OnOk result (length out.new.items ≤ format.start + format.limit) }
+    ensures long { result ≡ Err TooLong → format.start + format.limit < length (out.old.items
+        ++ row_written format.columns format.spans (rows_in tree.now) (table_said table.now) row) }
 {
     let others = table.width.saturating_sub(1) as usize;
-    take_slot(tree, format.1, table, slots, 0, row, room)?;
-    put_first_value(format.0, others, room.line.as_slice(), out)?;
-    put_more(tree, format, table, slots, row, room, out)?;
+    take_slot(tree, format.spans, table, slots, 0, row, words)?;
+    put_first_value(format.columns, others, words.line.as_slice(), out)?;
+    put_more(tree, format, table, slots, row, words, out)?;
     out.push(b'\n')?;
-    Ok(())
+    format.check(out.len())
 }
 
 // Writes the rows of a table.
 fn put_rows(
     alloc: Global,
     tree: &Tree<'_>,
-    format: (Columns, Spans),
+    format: Format,
     table: &Table,
     out: &mut Vec<u8>,
-) -> Result<(), AllocError>
-    requires { AreRising 0 (length table.now.rows.items) table.now.cells.items }
-    ensures { OnOk result (out.new.items ≡ out.old.items ++ rows_written format.0 format.1
-        (rows_in tree.now) (table_said table.now) (length table.now.rows.items)) }
+) -> Result<(), TableError>
+    requires rising { AreRising 0 (length table.now.rows.items) table.now.cells.items }
+    requires start { format.start ≡ length out.old.items }
+    ensures written { OnOk result (out.new.items ≡ out.old.items ++ rows_written format.columns
+        format.spans (rows_in tree.now) (table_said table.now) (length table.now.rows.items)) }
+    ensures within { OnOk result (length (rows_written format.columns format.spans
+        (rows_in tree.now) (table_said table.now) (length table.now.rows.items)) ≤ format.limit) }
+    ensures long { result ≡ Err TooLong → format.limit < length (rows_written format.columns
+        format.spans (rows_in tree.now) (table_said table.now) (length table.now.rows.items)) }
 {
-    let mut room = Room::new(alloc);
+    let mut words = CellWords::new(alloc);
     let mut slots = RowSlots::new(alloc);
     for row in 0..table.rows.len() {
         slots.go_to(table, row)?;
-        put_row(tree, format, table, &slots, row, &mut room, out)?;
+        put_row(tree, format, table, &slots, row, &mut words, out)?;
     }
     Ok(())
 }
@@ -140,17 +183,31 @@ fn put_rows(
 /// Writes a line for each row of the table of a `table` element, with a value for each column: the
 /// words of the cell that has the slot, as one line of readable text. A row of a table without
 /// columns is one empty value.
+///
+/// The lines may have so many bytes at most. Those of a table with more are left off early, in time
+/// and memory of the page and the limit.
 pub fn write_table(
     alloc: Global,
     tree: &Tree<'_>,
     number: usize,
     columns: Columns,
     spans: Spans,
+    limit: usize,
     out: &mut Vec<u8>,
-) -> Result<(), AllocError>
-    ensures { OnOk result (out.new.items
+) -> Result<(), TableError>
+    ensures written { OnOk result (out.new.items
         ≡ out.old.items ++ table_written columns spans (rows_in tree.now) number) }
+    ensures within { OnOk result
+        (length (table_written columns spans (rows_in tree.now) number) ≤ limit) }
+    ensures long { result ≡ Err TooLong →
+        limit < length (table_written columns spans (rows_in tree.now) number) }
 {
-    let table = table_of(alloc, tree, number)?;
-    put_rows(alloc, tree, (columns, spans), &table, out)
+    let table = table_within(alloc, tree, number, limit)?;
+    let format = Format {
+        columns,
+        spans,
+        start: out.len(),
+        limit,
+    };
+    put_rows(alloc, tree, format, &table, out)
 }

@@ -1,14 +1,16 @@
 //! The slots of a table, and the cells that cover them.
-ghost use Rattle.std.specs.Prelude.{◌≡◌, ◌≤◌, ◌++◌, ◌-◌, IfOk, OnOk, codes, length, min, suc};
+ghost use Rattle.std.specs.Prelude.{◌≡◌, ◌<◌, ◌≤◌, ◌*◌, ◌++◌, ◌-◌, Err, IfOk, OnOk, codes, length, min, suc};
 ghost use Rattle.std.specs.Option.{option_map};
 ghost use Rattle.tl_tree.specs.TreeView.{rows_in};
 ghost use Rattle.tl_tree_extract.specs.Inner.Open.{StandsAt, StandsBefore, forming_said};
 ghost use Rattle.tl_tree_extract.specs.Named.{is_named_at};
 ghost use Rattle.tl_tree_extract.specs.Table.{body_names, bottom_said, cell_at, cell_names, children_named, columns_said, first_steps, foot_names, free_from, group_steps, last_steps, number_at, place_cells, row_names, rows_ahead, rows_from, steps_of, table_of, table_rows, table_said, with_cell};
+ghost use Rattle.tl_tree_extract.specs.declared.table_error.TableError.TheVariants.{TooLong};
 
 use crate::forming::Forming;
 use crate::named::is_named_at;
 use crate::number::non_negative;
+use crate::table_error::TableError;
 use std::alloc::{AllocError, Global};
 use tl_tree::Tree;
 
@@ -264,19 +266,63 @@ fn place_cells(
     forming.end_row()
 }
 
-/// The table of a `table` element: which cells cover which slots. Where several cover one, it has
-/// the first of them.
-pub fn table_of(alloc: Global, tree: &Tree<'_>, table: usize) -> Result<Table, AllocError>
-    ensures { IfOk result (λ t. table_said t ≡ table_of (rows_in tree.now) table) }
+// Puts the cells of a row into its slots: of so many rows, which may have so many slots at most.
+fn form_row(
+    forming: &mut Forming,
+    tree: &Tree<'_>,
+    row: TableRow,
+    number: usize,
+    count: usize,
+    limit: usize,
+) -> Result<(), TableError>
+    requires { StandsBefore forming.old number }
+    ensures said { OnOk result (forming_said forming.new ≡ place_cells (rows_in tree.now) row
+        number (children_named cell_names (rows_in tree.now) row.node) 0
+        (forming_said forming.old)) }
+    ensures stands { OnOk result (StandsBefore forming.new (suc number)) }
+    ensures long { result ≡ Err TooLong → (limit < usize.MAX) × (limit < count
+        * (place_cells (rows_in tree.now) row number
+        (children_named cell_names (rows_in tree.now) row.node) 0
+        (forming_said forming.old)).width) }
+{
+    place_cells(forming, tree, row, number)?;
+    if count.saturating_mul(forming.width as usize) > limit {
+        return Err(TableError::TooLong);
+    }
+    Ok(())
+}
+
+/// The table of a `table` element, as `table_of` has it, if it has so many slots at most.
+pub(crate) fn table_within(
+    alloc: Global,
+    tree: &Tree<'_>,
+    table: usize,
+    limit: usize,
+) -> Result<Table, TableError>
+    ensures said { IfOk result (λ t. table_said t ≡ table_of (rows_in tree.now) table) }
+    ensures long { result ≡ Err TooLong → let t = table_of (rows_in tree.now) table in
+        (limit < usize.MAX) × (limit < length t.rows * t.width) }
 {
     let rows = table_rows(alloc, tree, table)?;
     let mut forming = Forming::new(alloc);
     for (number, row) in rows.iter().enumerate() {
-        place_cells(&mut forming, tree, *row, number)?;
+        form_row(&mut forming, tree, *row, number, rows.len(), limit)?;
     }
     Ok(Table {
         width: forming.width,
         rows,
         cells: forming.cells,
     })
+}
+
+/// The table of a `table` element: which cells cover which slots. Where several cover one, it has
+/// the first of them.
+pub fn table_of(alloc: Global, tree: &Tree<'_>, table: usize) -> Result<Table, AllocError>
+    ensures { IfOk result (λ t. table_said t ≡ table_of (rows_in tree.now) table) }
+{
+    match table_within(alloc, tree, table, usize::MAX) {
+        Ok(table) => Ok(table),
+        Err(TableError::TooLong) => unreachable!(),
+        Err(TableError::OutOfMemory) => Err(AllocError),
+    }
 }

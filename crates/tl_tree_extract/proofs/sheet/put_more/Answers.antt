@@ -1,26 +1,29 @@
-use Rattle.std.proofs.Common.{List, [], ap, append_assoc, arith, subst, sym, suc, ℕ, ◌+◌, ◌++◌, ◌∙◌, ◌≡◌, ◌∷◌}
-use Rattle.tl_tree.specs.Rows.{Row}
+use Rattle.std.proofs.Common.{arith, length, rules, ℕ, ◌+◌, ◌-◌, ◌<◌, ◌∙◌, ◌≤◌}
 use Rattle.tl_tree.specs.TreeView.{rows_in}
-use Rattle.tl_tree_extract.specs.Fields.{separator, value_written}
-use Rattle.tl_tree_extract.specs.Sheet.{more_slots, slot_words}
-use Rattle.tl_tree_extract.specs.Table.{TableModel, table_said}
+use Rattle.tl_tree_extract.proofs.Lengths.{slot_more, slots_over}
+use Rattle.tl_tree_extract.specs.Table.{table_said}
 use Rattle.tl_tree_extract.proofs.sheet.put_more.Goals as goal
 
 pub loop-last-preserved : goal.loop-last-preserved
-loop-last-preserved c =
+loop-last-preserved c = record {
+  kept = c.in_ok-take_slot.ensures.kept;
+  out = slot_more c.args.format.columns c.args.format.spans (rows_in c.args.tree.now) (table_said c.args.table.now) c.args.row c.loop-last.last c.args.out.now.items
+      c.put_value.new.out.items c.put_separator.new.out.items c.loop-last.out.items c.as_slice.result.now
+      c.in_ok-put_value.ensures (c.as_slice.ensures.value ∙ c.in_ok-take_slot.ensures.line) c.in_ok-put_separator.ensures c.loop-last.invariant.out;
+}
+
+pub returns-in_err-check-clause-long : goal.returns-in_err-check-clause-long
+returns-in_err-check-clause-long c = λ h.
+    let columns = c.args.format.columns in
+    let spans = c.args.format.spans in
+    let rows = rows_in c.args.tree.now in
+    let t = table_said c.args.table.now in
     let n : ℕ = c.loop-last.last in
-    let columns = c.args.format.0 in
-    let spans = c.args.format.1 in
-    let rows : List Row = rows_in c.args.tree.now in
-    let t : TableModel = table_said c.args.table.now in
-    let row : ℕ = c.args.row in
-    let old : List ℕ = c.args.out.now.items in
-    let behind : suc n ≡ n + 1 = omega arith in
-    let words : List ℕ = slot_words spans rows t (suc n) row in
-    let said : c.as_slice.result.now ≡ words = c.as_slice.ensures.value ∙ c.in_ok-take_slot.ensures ∙ ap (λ (m : ℕ). slot_words spans rows t m row) (sym behind) in
-    subst (λ (m : ℕ). c.put_value.new.out.items ≡ old ++ more_slots columns spans rows t row m) behind
-    (c.in_ok-put_value.ensures
-    ∙ ap (λ (v : List ℕ). c.put_separator.new.out.items ++ value_written columns v) said
-    ∙ ap (λ (v : List ℕ). v ++ value_written columns words) (c.in_ok-put_separator.ensures ∙ ap (λ (v : List ℕ). v ++ separator columns ∷ []) c.loop-last.invariant)
-    ∙ append_assoc (old ++ more_slots columns spans rows t row n) (separator columns ∷ []) (value_written columns words)
-    ∙ append_assoc old (more_slots columns spans rows t row n) (separator columns ∷ value_written columns words))
+    let old = c.args.out.now.items in
+    let put = c.put_value.new.out.items in
+    let written = slot_more columns spans rows t c.args.row n old put c.put_separator.new.out.items c.loop-last.out.items c.as_slice.result.now
+    c.in_ok-put_value.ensures (c.as_slice.ensures.value ∙ c.in_ok-take_slot.ensures.line) c.in_ok-put_separator.ensures c.loop-last.invariant.out in
+    let le : n + 1 ≤ c.args.table.now.width - 1 = omega (arith, c.loop-last-test.true) in
+    let told = c.in_err-check.ensures.long (search (rules, h)) in
+    let over : c.args.format.start + c.args.format.limit < length put = omega (arith, told, c.len.ensures) in
+    slots_over columns spans rows t c.args.row (n + 1) (c.args.table.now.width - 1) (c.args.format.start + c.args.format.limit) old put le written over

@@ -2,7 +2,7 @@ use Rattle.std.proofs.Common.{◌≡◌, [], drop}
 use Rattle.tl_tree.specs.TreeView.{rows_in}
 use Rattle.tl_tree_extract.specs.Inner.Open.{StandsBefore, forming_said}
 use Rattle.tl_tree_extract.specs.Table.{form_rows}
-use Rattle.tl_tree_extract.proofs.tables.table_of.Given as goal
+use Rattle.tl_tree_extract.proofs.tables.table_within.Given as goal
 
 -- what is formed, with the rows that are left, is what is formed of all of them
 abbrev pub invariant-loop-number : goal.invariant-loop-number
