@@ -445,7 +445,7 @@ What is refused.
   tl: -: the page would be read otherwise, for the element at byte 0 (err)
   [2]
   $ printf '<p>a</p></p>' | tl remove p
-  tl: -: no start tag at byte 8 (err)
+  tl: -: the element that is put in at byte 12 has no tag (err)
   [2]
   $ tl remove 'b[' break
   tl: no selector: at byte 2: a name is missing (err)
@@ -499,7 +499,7 @@ What is refused.
   tl: no key:\x20 (esc) (err)
   [2]
   $ printf '<p>a</p></p>' | tl set p k v
-  tl: -: the element at byte 8 has no start tag (err)
+  tl: -: the element that is put in at byte 12 has no tag (err)
   [2]
 
 A browser may read a `style` or `script` behind an `svg` and its like as markup: no text with `&` or `<` is put there.
@@ -541,10 +541,9 @@ A browser may read a `style` or `script` behind an `svg` and its like as markup:
   $ printf '<body><noscript><style></style></noscript>' | tl fill style 'a</noscript><img src=x onerror=alert(1)>'
   tl: -: a browser may read the text as markup in the element at line 1, as noscript begins before it, at line 1: put no '<' and '&' there, or move it before that (err)
   [2]
-  $ for front in '<frameset></frameset>' '<template><col>' '<select>' '<svg><b><math></svg>' '<svg></p><math></svg>' '<noscript></noscript>'; do
+  $ for front in '<template></template>' '<select>' '<svg><b><math></svg>' '<svg></p><math></svg>' '<noscript></noscript>'; do
   >   printf '%s<style>a</style>' "$front" | tl fill style '<' 2>&1 | grep -o 'as [a-z]* begins'
   > done
-  as frameset begins
   as template begins
   as select begins
   as svg begins
@@ -568,15 +567,45 @@ Nor does an element get such a name before a raw text with one of them.
   $ printf '<script>1 < 2</script><b>a</b>' | tl rename b svg
   <script>1 < 2</script><svg>a</svg> (no-eol)
 
-A selector that finds nothing and names a tag that browsers put in.
+A selector is asked of the tree that browsers build, with the tags that they put in.
 
   $ printf '<table><tr><td>a</table>' >rows
   $ tl set 'table > tbody > tr' class k rows
-  <table><tr><td>a</table> (no-eol)
-  tl: nothing is found: tbody is found only where a page has its tag, as html, head, body, tbody and colgroup are not put in (err)
-  [1]
-  $ tl remove -i 'body *' rows rows
-  tl: nothing is found: body is found only where a page has its tag, as html, head, body, tbody and colgroup are not put in (err)
-  [1]
-  $ tl set 'table > tr' class k rows
   <table><tr class="k"><td>a</table> (no-eol)
+  $ tl remove 'body td' rows
+  <table><tr></table> (no-eol)
+  $ tl set 'table > tr' class k rows
+  <table><tr><td>a</table> (no-eol)
+  [1]
+  $ printf '<svg><title>x</title><P>y' | tl set 'body > p' k v
+  <svg><title>x</title><P k="v">y (no-eol)
+  $ printf '<template><p>x</template><p>y' | tl remove p
+  <template><p>x</template> (no-eol)
+
+What a start tag stands for several times is changed once.
+
+  $ printf '<div><b>1<p>2</b>3</p></div>' | tl set --dry-run b k v
+  -:1:6
+  $ printf '<div><b>1<p>2</b>3</p></div>' | tl set b k v
+  <div><b k="v">1<p>2</b>3</p></div> (no-eol)
+
+An element that browsers put in has no tag that could be changed; a key that it has not can go.
+
+  $ tl set -i tbody class k rows rows
+  tl: rows: the element that is put in at byte 7 has no tag (err)
+  tl: rows: the element that is put in at byte 7 has no tag (err)
+  [2]
+  $ tl remove 'body *' rows
+  tl: rows: the element that is put in at byte 7 has no tag (err)
+  [2]
+  $ printf 'x' | tl append head y
+  tl: -: the element that is put in at byte 0 has no tag (err)
+  [2]
+  $ printf '<p class=x>a' | tl unset '*' class
+  <p>a (no-eol)
+
+Where the tokenizer by itself reads a text, no tag can be changed.
+
+  $ printf '<svg><title><b></title></svg>' | tl set b k v
+  tl: -: the element at byte 12 has no start tag (err)
+  [2]

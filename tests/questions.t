@@ -203,6 +203,19 @@ The rows and cells of a table, of the number that is asked for, from 1.
   $ printf '<table><tbody><tbody><tr><td>n</td></tr></tbody></tbody></table>' | tl table
   n
 
+A table whose lines are out of proportion to the page is refused, at its start tag.
+
+  $ python3 -c 'print("<table><tr>" + "<td colspan=1000>" * 40 + "<tr>", end="")' | tl table | wc -c
+  80000
+  $ python3 -c 'print("<table><tr>" + "<td colspan=1000>" * 40 + "<tr>" * 2, end="")' | tl table
+  tl: -: byte 0: the table has too many values (err)
+  [2]
+  $ printf '<table><tr><td>x</table><p>y</p><table><tr><td colspan=1000>%0100d' 0 | tl table --number 2
+  tl: -: byte 32: the table has too many values (err)
+  [2]
+  $ printf '<table><tr><td>x</table><p>y</p><table><tr><td colspan=1000>%0100d' 0 | tl table
+  x
+
 There is no such table.
 
   $ printf '' | tl table

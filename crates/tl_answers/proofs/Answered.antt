@@ -1,8 +1,14 @@
 -- What is answered of a page, by its tree.
-use Rattle.std.proofs.Common.{List, ap, refl, true, ℕ, ◌∙◌, ◌≡◌}
-use Rattle.tl_answers.specs.Answers.{answer_of}
-use Rattle.tl_answers.specs.Findings.{Finding}
-use Rattle.tl_answers.specs.Pages.{AreSources, IsAnswered, searched}
+use Rattle.std.proofs.Common.{Err, List, Ok, Result, ap, length, subst, true, ℕ, ◌∙◌, ◌≡◌}
+use Rattle.std.specs.Prelude.{IfErr, IfOk, OnOk}
+use Rattle.tl_answers.specs.Answers.{answer_of, table_asked}
+use Rattle.tl_answers.specs.Findings.{finding_of}
+use Rattle.tl_answers.specs.Pages.{AreSources, IsAnswered, IsRefused, page_rows, searched}
+use Rattle.tl_answers.specs.Tables.{Fits, IsLargeAt, IsUnanswered}
+use Rattle.tl_answers.specs.declared.error.AnswerError.{AnswerError}
+use Rattle.tl_answers.specs.declared.error.AnswerError.TheVariants as errors
+use Rattle.tl_answers.specs.declared.error.AnswerError.TheVariants.{LargeTable, Unread}
+use Rattle.tl_answers.specs.declared.output.Output.{Output}
 use Rattle.tl_answers.specs.declared.question.Question.{Question}
 use Rattle.tl_dom_spec.specs.HtmlTree.{html_tree, is_in_proportion_by, standard}
 use Rattle.tl_tree.specs.Asked.{node_at}
@@ -26,12 +32,38 @@ module _ (page : List ℕ) (tree : Tree) (rows : rows_in tree ≡ rows_of (html_
     each = λ row node there. sourced.each row node (ap (λ (R : List Row). node_at R row) rows ∙ there);
   }
 
-  pub answered : (question : Question) (ns end : List ℕ) (finding : Finding) → is_in_proportion_by standard page ≡ true
-      → AreSourced page (page_begin standard page) tree → finding ≡ answer_of question ns end (html_tree page).trees (source_at tree)
-      → IsAnswered question ns end page finding
-  answered question ns end finding fits sourced said = record {
-    in_proportion = fits;
+  -- the rows that a table is asked of are those of the page
+  pub fitted : (question : Question) → Fits (length page) (rows_in tree) (table_asked (rows_in tree) question)
+      → Fits (length page) (page_rows page) (table_asked (page_rows page) question)
+  fitted question fits = subst (λ (R : List Row). Fits (length page) R (table_asked R question)) rows fits
+
+  pub answered : (question : Question) (ns end : List ℕ) (r : Result Output AnswerError) → is_in_proportion_by standard page ≡ true
+      → AreSourced page (page_begin standard page) tree
+      → IfOk r (λ output. finding_of output ≡ answer_of question ns end (html_tree page).trees (source_at tree))
+      → OnOk r (Fits (length page) (rows_in tree) (table_asked (rows_in tree) question))
+      → IfOk r (λ output. IsAnswered question ns end page (finding_of output))
+  answered question ns end (Ok output) in_proportion sourced said fits = record {
+    in_proportion = in_proportion;
     sources = source_at tree;
     are_sources = are_sources sourced;
     answer = said;
+    fits = fitted question fits;
   }
+  answered question ns end (Err error) in_proportion sourced said fits = tt
+
+  refused_by : (question : Question) (error : AnswerError) → is_in_proportion_by standard page ≡ true → AreSourced page (page_begin standard page) tree
+      → IsUnanswered (length page) (rows_in tree) (source_at tree) (table_asked (rows_in tree) question) error → IsRefused question page error
+  refused_by question (Unread error) in_proportion sourced why = absurd why
+  refused_by question (LargeTable at) in_proportion sourced why = record {
+    in_proportion = in_proportion;
+    sources = source_at tree;
+    are_sources = are_sources sourced;
+    large = subst (λ (R : List Row). IsLargeAt (length page) R (source_at tree) (table_asked R question) at) rows why;
+  }
+  refused_by question errors.OutOfMemory in_proportion sourced why = tt
+
+  pub refused : (question : Question) (r : Result Output AnswerError) → is_in_proportion_by standard page ≡ true
+      → AreSourced page (page_begin standard page) tree
+      → IfErr r (IsUnanswered (length page) (rows_in tree) (source_at tree) (table_asked (rows_in tree) question)) → IfErr r (IsRefused question page)
+  refused question (Ok output) in_proportion sourced why = tt
+  refused question (Err error) in_proportion sourced why = refused_by question error in_proportion sourced why

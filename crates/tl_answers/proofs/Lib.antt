@@ -3,3 +3,4 @@ pub mod Ends
 pub mod Joined
 pub mod Nth
 pub mod Answered
+pub mod Edits

@@ -1,10 +1,10 @@
 -- What is answered of the tree of a page.
-use Rattle.std.specs.Prelude.{List, None, Option, Some, [], false, flat_map, length, take, ℕ, ◌++◌, ◌≡◌}
+use Rattle.std.specs.Prelude.{List, None, Option, Some, [], false, flat_map, length, slice_get, take, ℕ, ◌++◌, ◌≡◌}
 use Rattle.tl_answers.specs.Document.{document_text}
 use Rattle.tl_answers.specs.Findings.{Finding, listed, number_line, of_nodes, whole}
 use Rattle.tl_answers.specs.Lines.{field_lines, line_ended, readable_lines}
 use Rattle.tl_answers.specs.Objects.{array_line}
-use Rattle.tl_answers.specs.Tables.{table_lines}
+use Rattle.tl_answers.specs.Tables.{table_lines, tables_of}
 use Rattle.tl_answers.specs.declared.question.Question.{Question}
 use Rattle.tl_answers.specs.declared.question.Question.TheVariants.{Links, Outline, PrettyPrint, Print, Readable, Select, Table, Text}
 use Rattle.tl_answers.specs.declared.selection.Listing.{Listing}
@@ -69,3 +69,14 @@ answer_of PrettyPrint ns end trees sources = whole (pretty false trees)
 answer_of (Table number) ns end trees sources = table_lines (rows_of trees) number
 answer_of (Outline has_numbers) ns end trees sources =
     whole (node_outline has_numbers (rows_of trees))
+
+-- the node of the table that is asked for, if there is one
+abbrev pub table_asked : List Row → Question → Option ℕ
+table_asked rows (Select query) = None
+table_asked rows Links = None
+table_asked rows Text = None
+table_asked rows Readable = None
+table_asked rows Print = None
+table_asked rows PrettyPrint = None
+table_asked rows (Table number) = slice_get (tables_of rows) number
+table_asked rows (Outline has_numbers) = None

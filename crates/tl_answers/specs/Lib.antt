@@ -5,3 +5,4 @@ pub mod Objects
 pub mod Tables
 pub mod Answers
 pub mod Pages
+pub mod Edits

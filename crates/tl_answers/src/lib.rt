@@ -2,6 +2,9 @@
 #![tactic(auto)]
 
 mod document;
+mod edit;
+mod edited;
+mod error;
 mod field;
 mod lines;
 mod objects;
@@ -12,6 +15,9 @@ mod question;
 mod selection;
 mod tables;
 
+pub use edit::{Edit, Refusal};
+pub use edited::edited_page;
+pub use error::AnswerError;
 pub use field::{Field, Key};
 pub use output::Output;
 pub use page::answer_of_page;

@@ -2,15 +2,16 @@
 ghost use Rattle.std.specs.Prelude.{IfErr, IfOk, List, ℕ};
 ghost use Rattle.tl_answers.specs.Answers.{AreSelected};
 ghost use Rattle.tl_answers.specs.Findings.{finding_of};
-ghost use Rattle.tl_answers.specs.Pages.{IsAnswered, IsUnread, searched};
+ghost use Rattle.tl_answers.specs.Pages.{IsAnswered, IsRefused, searched};
 
+use crate::error::AnswerError;
 use crate::output::Output;
 use crate::question::{Question, answer};
-use std::alloc::{AllocError, Global};
-use tl_tree::{Flags, ReadError, Tree};
+use std::alloc::Global;
+use tl_tree::{Flags, Tree};
 
 // Pages are read by the standard, without scripts.
-const FLAGS: Flags = Flags {
+pub(crate) const FLAGS: Flags = Flags {
     is_scripting: false,
     counts_search: true,
 };
@@ -22,15 +23,12 @@ pub fn answer_of_page(
     question: &Question<'_>,
     end: &str,
     page: &[u8],
-) -> Result<Output, ReadError>
+) -> Result<Output, AnswerError>
     // By the numbers of the nodes where its selector holds, if it has one: these are one list.
     ensures made { (ns : List ℕ) → AreSelected question.now (searched page.now) ns → IfOk result
         (λ output. IsAnswered question.now ns end.now page.now (finding_of output)) }
-    ensures told { IfErr result (IsUnread page.now) }
+    ensures told { IfErr result (IsRefused question.now page.now) }
 {
     let tree = Tree::read(alloc, page, FLAGS)?;
-    match answer(alloc, question, end, &tree) {
-        Ok(output) => Ok(output),
-        Err(AllocError) => Err(ReadError::OutOfMemory),
-    }
+    answer(alloc, question, end, &tree, page.len())
 }

@@ -1,7 +1,8 @@
 //! What is asked of the tree of a page.
-ghost use Rattle.std.specs.Prelude.{IfOk, List, ℕ, ◌≡◌};
-ghost use Rattle.tl_answers.specs.Answers.{AreSelected, answer_of};
+ghost use Rattle.std.specs.Prelude.{IfErr, IfOk, List, OnOk, ℕ, ◌≡◌};
+ghost use Rattle.tl_answers.specs.Answers.{AreSelected, answer_of, table_asked};
 ghost use Rattle.tl_answers.specs.Findings.{finding_of};
+ghost use Rattle.tl_answers.specs.Tables.{Fits, IsUnanswered};
 ghost use Rattle.tl_dom_spec.specs.HtmlForest.{HtmlForest};
 ghost use Rattle.tl_tree.specs.Rows.{rows_of};
 ghost use Rattle.tl_tree.specs.Sources.{source_at};
@@ -9,12 +10,13 @@ ghost use Rattle.tl_tree.specs.TreeView.{rows_in};
 ghost use Rattle.tl_tree_select.specs.Page.{page_of};
 
 use crate::document::{document_text, outline, readable_document};
+use crate::error::AnswerError;
 use crate::lines::link_lines;
 use crate::output::Output;
 use crate::prints::{pretty_print, print};
 use crate::selection::{Query, selection};
 use crate::tables::table_lines;
-use std::alloc::{AllocError, Global};
+use std::alloc::Global;
 use tl_tree::Tree;
 
 /// What is asked of the tree of a page.
@@ -38,26 +40,32 @@ pub enum Question<'w> {
     Outline(bool),
 }
 
-/// What is answered, where what is listed ends with `end`.
+/// What is answered of the tree of a page of so many bytes, where what is listed ends with `end`.
+/// A table whose lines are out of proportion to the page is refused.
 pub fn answer(
     alloc: Global,
     question: &Question<'_>,
     end: &str,
     tree: &Tree<'_>,
-) -> Result<Output, AllocError>
+    size: usize,
+) -> Result<Output, AnswerError>
     // By the numbers of the nodes where its selector holds, if it has one: these are one list.
-    ensures { (trees : HtmlForest) (ns : List ℕ) → rows_in tree.now ≡ rows_of trees →
+    ensures made { (trees : HtmlForest) (ns : List ℕ) → rows_in tree.now ≡ rows_of trees →
         AreSelected question.now (page_of tree.now) ns → IfOk result (λ output. finding_of output
         ≡ answer_of question.now ns end.now trees (source_at tree.now)) }
+    ensures fits { let rows = rows_in tree.now in
+        OnOk result (Fits size rows (table_asked rows question.now)) }
+    ensures told { let rows = rows_in tree.now in IfErr result
+        (IsUnanswered size rows (source_at tree.now) (table_asked rows question.now)) }
 {
     match question {
-        Question::Select(query) => selection(alloc, tree, query, end),
-        Question::Links => link_lines(alloc, tree, end),
-        Question::Text => document_text(alloc, tree),
-        Question::Readable => readable_document(alloc, tree),
-        Question::Print => print(alloc, tree),
-        Question::PrettyPrint => pretty_print(alloc, tree),
-        Question::Table(number) => table_lines(alloc, tree, *number),
-        Question::Outline(has_numbers) => outline(alloc, tree, *has_numbers),
+        Question::Select(query) => Ok(selection(alloc, tree, query, end)?),
+        Question::Links => Ok(link_lines(alloc, tree, end)?),
+        Question::Text => Ok(document_text(alloc, tree)?),
+        Question::Readable => Ok(readable_document(alloc, tree)?),
+        Question::Print => Ok(print(alloc, tree)?),
+        Question::PrettyPrint => Ok(pretty_print(alloc, tree)?),
+        Question::Table(number) => table_lines(alloc, tree, *number, size),
+        Question::Outline(has_numbers) => Ok(outline(alloc, tree, *has_numbers)?),
     }
 }

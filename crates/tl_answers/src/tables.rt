@@ -1,16 +1,17 @@
 //! A table of a page.
-ghost use Rattle.std.specs.Option.{unwrap_or};
-ghost use Rattle.std.specs.Prelude.{IfOk, [], filter, slice_get, ◌≡◌};
+ghost use Rattle.std.specs.Prelude.{IfErr, IfOk, OnOk, slice_get, ◌≡◌};
 ghost use Rattle.tl_answers.specs.Findings.{finding_of};
-ghost use Rattle.tl_answers.specs.Tables.{is_table_at, table_lines, tables_of};
+ghost use Rattle.tl_answers.specs.Tables.{Fits, IsUnanswered, is_table_at, start_of, table_limit, table_lines, tables_of};
+ghost use Rattle.tl_tree.specs.Sources.{source_at};
 ghost use Rattle.tl_tree.specs.TreeView.{rows_in};
 
 use crate::document::document_element;
+use crate::error::AnswerError;
 use crate::field::is_html_at;
 use crate::output::Output;
-use std::alloc::{AllocError, Global};
+use std::alloc::Global;
 use tl_tree::Tree;
-use tl_tree_extract::{Columns, Spans, write_table};
+use tl_tree_extract::{Columns, Spans, TableError, write_table};
 
 // Whether a node is a `table` of HTML.
 fn is_table_at(tree: &Tree<'_>, number: usize) -> bool
@@ -40,26 +41,48 @@ fn nth_table(tree: &Tree<'_>, number: usize) -> Option<usize>
     None
 }
 
-/// The table of a number among those of a page, from 0, as CSV, each slot with the words of the
-/// cell that covers it; nothing is found where there is no such table.
+// The most bytes that the lines of a table may have, of a page of so many.
+fn table_limit(size: usize) -> usize
+    ensures { result ≡ table_limit size }
+{
+    size.saturating_mul(64).saturating_add(65536)
+}
+
+// Where the start tag of a node begins, or 0 where none stands for it.
+fn start_of(tree: &Tree<'_>, number: usize) -> usize
+    ensures { result ≡ start_of (source_at tree.now number) }
+{
+    match tree.source(number) {
+        Some(source) => source.start,
+        None => 0,
+    }
+}
+
+/// The table of a number among those of a page of so many bytes, from 0, as CSV, each slot with the
+/// words of the cell that covers it; nothing is found where there is no such table.
 pub(crate) fn table_lines(
     alloc: Global,
     tree: &Tree<'_>,
     number: usize,
-) -> Result<Output, AllocError>
-    ensures { IfOk result (λ lines. finding_of lines ≡ table_lines (rows_in tree.now) number) }
+    size: usize,
+) -> Result<Output, AnswerError>
+    ensures made { IfOk result (λ lines. finding_of lines ≡ table_lines (rows_in tree.now) number) }
+    ensures fits { let rows = rows_in tree.now in
+        OnOk result (Fits size rows (slice_get (tables_of rows) number)) }
+    ensures told { let rows = rows_in tree.now in IfErr result
+        (IsUnanswered size rows (source_at tree.now) (slice_get (tables_of rows) number)) }
 {
     let mut lines = Vec::new(alloc);
     let Some(table) = nth_table(tree, number) else {
         return Ok(Output::from_lines(lines));
     };
-    write_table(
-        alloc,
-        tree,
-        table,
-        Columns::Commas,
-        Spans::Filled,
-        &mut lines,
-    )?;
-    Ok(Output::whole(lines))
+    let limit = table_limit(size);
+    let (columns, spans) = (Columns::Commas, Spans::Filled);
+    match write_table(alloc, tree, table, columns, spans, limit, &mut lines) {
+        Ok(()) => Ok(Output::whole(lines)),
+        Err(TableError::TooLong) => Err(AnswerError::LargeTable {
+            at: start_of(tree, table),
+        }),
+        Err(TableError::OutOfMemory) => Err(AnswerError::OutOfMemory),
+    }
 }

@@ -2,4 +2,3 @@ pub mod Task
 pub mod Filename
 pub mod Reports
 pub mod UsageErrors
-pub mod Edits

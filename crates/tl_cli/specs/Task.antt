@@ -2,11 +2,14 @@
 use Rattle.std.specs.Prelude.{List, [], true, ℕ, ⊤, ◌≡◌}
 use Rattle.tl_answers.specs.Answers.{AreSelected}
 use Rattle.tl_answers.specs.Findings.{Finding, whole}
-use Rattle.tl_answers.specs.Pages.{IsAnswered, IsUnread, searched}
+use Rattle.tl_answers.specs.Pages.{HasLargeTableAt, IsAnswered, IsUnread, searched}
+use Rattle.tl_answers.specs.declared.error.AnswerError.{AnswerError}
+use Rattle.tl_answers.specs.declared.error.AnswerError.TheVariants as unanswered
+use Rattle.tl_answers.specs.declared.question.Question.{Question}
 use Rattle.tl_cli.specs.declared.task.Task.{Task}
 use Rattle.tl_cli.specs.declared.task.Task.TheVariants.{Ask, Sanitize}
 use Rattle.tl_cli.specs.declared.task.Unmade.{Unmade}
-use Rattle.tl_cli.specs.declared.task.Unmade.TheVariants.{Failed, OutOfProportion, TooLarge}
+use Rattle.tl_cli.specs.declared.task.Unmade.TheVariants.{Failed, LargeTable, OutOfProportion, TooLarge}
 use Rattle.tl_html_spec.specs.HtmlTokenizer.{without_mark}
 use Rattle.tl_page.specs.Page.{IsPage}
 use Rattle.tl_page.specs.declared.failure.Failure.{Failure}
@@ -44,10 +47,11 @@ IsNoPage page OutOfMemory = ⊤
 IsNoPage page Fault = ⊥
 
 -- why nothing is answered of a page
-abbrev pub IsUnanswered : List ℕ → Unmade → Type 0
-IsUnanswered page (Failed failure) = IsNoPage page failure
-IsUnanswered page (OutOfProportion at) = IsUnread page (unread.OutOfProportion at)
-IsUnanswered page TooLarge = ⊤
+abbrev pub IsUnanswered : Question → List ℕ → Unmade → Type 0
+IsUnanswered question page (Failed failure) = IsNoPage page failure
+IsUnanswered question page (OutOfProportion at) = IsUnread page (unread.OutOfProportion at)
+IsUnanswered question page TooLarge = ⊤
+IsUnanswered question page (LargeTable at) = HasLargeTableAt question page at
 
 -- why it isn't made safe; bytes are counted behind a byte order mark
 abbrev pub IsUnsafe : List ℕ → Unmade → Type 0
@@ -55,10 +59,11 @@ IsUnsafe page (Failed failure) = IsNoPage page failure
 IsUnsafe page (OutOfProportion at) =
     IsUnreadInDiv (without_mark page) (unread.OutOfProportion at)
 IsUnsafe page TooLarge = ⊤
+IsUnsafe page (LargeTable at) = ⊥
 
 -- why a task makes nothing of it
 abbrev pub IsUnmade : Task → List ℕ → Unmade → Type 0
-IsUnmade (Ask question) page why = IsUnanswered page why
+IsUnmade (Ask question) page why = IsUnanswered question page why
 IsUnmade (Sanitize policy) page why = IsUnsafe page why
 
 -- want of memory is told as such
@@ -66,3 +71,8 @@ abbrev pub unmade_of : ReadError → Unmade
 unmade_of unread.OutOfMemory = Failed OutOfMemory
 unmade_of unread.TooLarge = TooLarge
 unmade_of (unread.OutOfProportion at) = OutOfProportion at
+
+abbrev pub unanswered_of : AnswerError → Unmade
+unanswered_of (unanswered.Unread error) = unmade_of error
+unanswered_of (unanswered.LargeTable at) = LargeTable at
+unanswered_of unanswered.OutOfMemory = Failed OutOfMemory

@@ -1,10 +1,10 @@
 //! What the words of a command ask to be changed.
 
 use crate::args::{UsageError, selector};
-use crate::edits::Edit;
 use crate::patching::{Patching, Target};
 use clap::ArgMatches;
 use std::alloc::Global;
+use tl_answers::Edit;
 use tl_commands::ElementVerb;
 use tl_patch::{is_key, is_name};
 use tl_patch_edit::{Content, ElementPatch};

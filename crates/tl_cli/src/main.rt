@@ -8,9 +8,7 @@ ghost use Rattle.tl_cli.specs.UsageErrors.{IsWrongWord};
 
 mod args;
 mod edit_words;
-mod edits;
 mod filename;
-mod implied;
 mod in_place;
 mod job;
 mod misread;

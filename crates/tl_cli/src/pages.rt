@@ -181,35 +181,32 @@ fn no_page(rt: &HostRuntime, file: &str, page: &[u8]) -> Answer
     Answer::Failed(Failure::NotUnderstood)
 }
 
-// Why the tree of a page isn't read.
+// What is too large of a page that is text.
 #[derive(Clone, Copy)]
-enum UnreadTree {
-    OutOfProportion(usize),
-    TooLarge,
+enum TooLarge {
+    Tree,
+    TreeAt(usize),
+    TableAt(usize),
 }
 
-impl fmt::Display for UnreadTree {
+impl fmt::Display for TooLarge {
     fn fmt<W: fmt::Write>(&self, f: &mut fmt::Formatter<W>) -> fmt::Result {
         match self {
-            UnreadTree::OutOfProportion(place) => {
-                write!(f, "its tree is out of proportion at byte {place}")
-            }
-            UnreadTree::TooLarge => f.write_str("its tree is too large"),
+            TooLarge::Tree => f.write_str("its tree is too large"),
+            TooLarge::TreeAt(place) => write!(f, "its tree is out of proportion at byte {place}"),
+            TooLarge::TableAt(place) => write!(f, "byte {place}: the table has too many values"),
         }
     }
 }
 
-// Says on standard error why nothing is made of a page, but for what fails whatever it says.
-fn unmade(rt: &HostRuntime, file: &str, text: &[u8], why: Unmade) -> Result<Answer, Failure> {
+/// Says on standard error why nothing is made of a page, but for what fails whatever it says.
+pub fn unmade(rt: &HostRuntime, file: &str, text: &[u8], why: Unmade) -> Result<Answer, Failure> {
     match why {
         Unmade::Failed(Failure::NotUnderstood) => Ok(no_page(rt, file, text)),
         Unmade::Failed(failure) => Err(failure),
-        Unmade::OutOfProportion(place) => Ok(not_understood(
-            rt,
-            file,
-            &UnreadTree::OutOfProportion(place),
-        )),
-        Unmade::TooLarge => Ok(not_understood(rt, file, &UnreadTree::TooLarge)),
+        Unmade::OutOfProportion(place) => Ok(not_understood(rt, file, &TooLarge::TreeAt(place))),
+        Unmade::TooLarge => Ok(not_understood(rt, file, &TooLarge::Tree)),
+        Unmade::LargeTable(place) => Ok(not_understood(rt, file, &TooLarge::TableAt(place))),
     }
 }
 

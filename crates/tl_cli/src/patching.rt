@@ -3,17 +3,18 @@ ghost use Rattle.std.specs.Prelude.{◌≡◌, IfErr};
 ghost use Rattle.tl_page.specs.declared.failure.Failure.TheVariants.{OutOfMemory};
 
 use crate::args::Pages;
-use crate::edits::{Edit, Refusal};
-use crate::implied::report_implied;
 use crate::in_place::replace;
 use crate::misread::Misread;
 use crate::pages::{
-    STANDARD_INPUT, not_understood, page_of, report, report_error, report_failure, unwritten, write,
+    STANDARD_INPUT, not_understood, page_of, report, report_error, report_failure, unmade,
+    unwritten, write,
 };
-use crate::reports::{Answer, NOTHING, Report, status_of};
+use crate::reports::{Answer, Report, status_of};
+use crate::task::Unmade;
 use std::alloc::{AllocError, Global};
 use std::fmt;
 use std::io::ErrorKind;
+use tl_answers::{Edit, Refusal, edited_page};
 use tl_css::Selector;
 use tl_encoding::{Encoding, encoding_of, encoding_said};
 use tl_page::{Failure, text};
@@ -167,7 +168,7 @@ fn patch_page(rt: &HostRuntime, patching: &Patching<'_>, file: &str) -> Result<A
         return Ok(not_understood(rt, file, &error));
     }
     let edit = &patching.edit;
-    match edit.patched(rt.alloc(), page, &patching.selector) {
+    match edited_page(rt.alloc(), edit, &patching.selector, page.as_bytes()) {
         Ok(patched) if is_misread(page.as_bytes(), &patched) => {
             Ok(not_understood(rt, file, &OtherEncoding))
         }
@@ -180,6 +181,7 @@ fn patch_page(rt: &HostRuntime, patching: &Patching<'_>, file: &str) -> Result<A
             Ok(not_understood(rt, file, &misread))
         }
         Err(Refusal::Element(error)) => Ok(not_understood(rt, file, &error)),
+        Err(Refusal::Unread(error)) => unmade(rt, file, page.as_bytes(), Unmade::from(error)),
     }
 }
 
@@ -229,9 +231,5 @@ pub fn patch_pages(
         Ok(reports) => reports,
         Err(AllocError) => return Err(report_failure(rt, "files", Failure::OutOfMemory)),
     };
-    let status = status_of(false, &reports);
-    if status == NOTHING {
-        report_implied(rt, &patching.selector);
-    }
-    Ok(status)
+    Ok(status_of(false, &reports))
 }

@@ -3,13 +3,13 @@ ghost use Rattle.std.specs.Prelude.{◌≡◌, ◌<◌, Err, IfErr, IfOk, IsUtf8
 ghost use Rattle.tl_answers.specs.Answers.{AreSelected};
 ghost use Rattle.tl_answers.specs.Findings.{finding_of};
 ghost use Rattle.tl_answers.specs.Pages.{IsAnswered, searched};
-ghost use Rattle.tl_cli.specs.Task.{AreSelectedIn, IsMade, IsMadeSafe, IsUnanswered, IsUnmade, IsUnsafe, unmade_of};
+ghost use Rattle.tl_cli.specs.Task.{AreSelectedIn, IsMade, IsMadeSafe, IsUnanswered, IsUnmade, IsUnsafe, unanswered_of, unmade_of};
 ghost use Rattle.tl_cli.specs.declared.task.Unmade.TheVariants.{Failed};
 ghost use Rattle.tl_page.specs.declared.failure.Failure.TheVariants.{NotUnderstood};
 ghost use Rattle.tl_tree_safe.specs.OfPolicy.{lists_of};
 
 use std::alloc::Global;
-use tl_answers::{Output, Question, answer_of_page};
+use tl_answers::{AnswerError, Output, Question, answer_of_page};
 use tl_page::{Failure, PageError, text};
 use tl_tree::ReadError;
 use tl_tree_safe::{Policy, sanitize_fragment, without_mark};
@@ -32,6 +32,8 @@ pub enum Unmade {
     OutOfProportion(usize),
     /// Its tree is too large.
     TooLarge,
+    /// The table that is asked for has too many values. Its start tag begins at this byte.
+    LargeTable(usize),
 }
 
 impl From<Failure> for Unmade {
@@ -62,11 +64,23 @@ impl From<ReadError> for Unmade {
     }
 }
 
+impl From<AnswerError> for Unmade {
+    ghost from_gives = { λ error unmade. unmade ≡ unanswered_of error };
+
+    fn from(error: AnswerError) -> Self {
+        match error {
+            AnswerError::Unread(error) => Unmade::from(error),
+            AnswerError::LargeTable { at } => Unmade::LargeTable(at),
+            AnswerError::OutOfMemory => Unmade::Failed(Failure::OutOfMemory),
+        }
+    }
+}
+
 // What is answered of a page.
 fn ask(alloc: Global, question: &Question<'_>, end: &str, page: &[u8]) -> Result<Output, Unmade>
     ensures made { (ns : List ℕ) → AreSelected question.now (searched page.now) ns → IfOk result
         (λ output. IsAnswered question.now ns end.now page.now (finding_of output)) }
-    ensures told { IfErr result (IsUnanswered page.now) }
+    ensures told { IfErr result (IsUnanswered question.now page.now) }
     ensures no_text { ¬ (IsUtf8 page.now) → result ≡ Err (Failed NotUnderstood) }
     ensures long { u32.MAX < length page.now → result ≡ Err (Failed NotUnderstood) }
 {
@@ -87,8 +101,8 @@ fn safe_page(alloc: Global, policy: &Policy<'_>, page: &[u8]) -> Result<Output, 
     Ok(Output::whole(safe))
 }
 
-/// What a task makes of a page, where what is listed ends with `end`: nothing of one whose tree is
-/// out of proportion to it.
+/// What a task makes of a page, where what is listed ends with `end`: nothing of one whose tree, or
+/// the table that is asked for, is out of proportion to it.
 pub fn execute(alloc: Global, task: &Task<'_>, end: &str, page: &[u8]) -> Result<Output, Unmade>
     // By the numbers of the nodes where its selector holds, if it has one: these are one list.
     ensures made { (ns : List ℕ) → AreSelectedIn task.now page.now ns → IfOk result

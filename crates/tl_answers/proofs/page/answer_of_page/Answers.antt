@@ -1,23 +1,25 @@
 use Rattle.std.proofs.Common.{List, subst, sym, ℕ, ◌≡◌}
-use Rattle.std.specs.Prelude.{IfOk}
-use Rattle.tl_answers.specs.Answers.{AreSelected, answer_of}
-use Rattle.tl_answers.specs.Findings.{finding_of}
+use Rattle.tl_answers.specs.Answers.{AreSelected}
 use Rattle.tl_answers.specs.Pages.{searched}
-use Rattle.tl_answers.proofs.Answered.{answered, page_is}
+use Rattle.tl_answers.proofs.Answered.{answered, page_is, refused}
 use Rattle.tl_dom_spec.specs.HtmlTree.{html_tree}
 use Rattle.tl_tree.specs.Rows.{rows_of}
-use Rattle.tl_tree.specs.Sources.{source_at}
 use Rattle.tl_tree.specs.TreeView.{rows_in}
 use Rattle.tl_tree_select.specs.Page.{Page, page_of}
 use Rattle.tl_answers.proofs.page.answer_of_page.Goals as goal
 
-pub returns-in-Ok-clause-made : goal.returns-in-Ok-clause-made
-returns-in-Ok-clause-made c = λ ns selected.
+pub returns-clause-made : goal.returns-clause-made
+returns-clause-made c = λ ns selected.
     let page : List ℕ = c.args.page.now in
     let question = c.args.question.now in
     let tree = c.in_ok-tree.tree in
     let rows : rows_in tree ≡ rows_of (html_tree page).trees = c.in_ok-tree.ensures.tree in
     let same : page_of tree ≡ searched page = page_is page tree rows c.in_ok-tree.ensures.quirks in
     let asked : AreSelected question (page_of tree) ns = subst (λ (p : Page). AreSelected question p ns) (sym same) selected in
-    let said : finding_of c.in-Ok.output ≡ answer_of question ns c.args.end.now (html_tree page).trees (source_at tree) = c.in-Ok.ensures (html_tree page).trees ns rows asked in
-    answered page tree rows question ns c.args.end.now (finding_of c.in-Ok.output) c.in_ok-tree.ensures.in_proportion c.in_ok-tree.ensures.sources said
+    answered page tree rows question ns c.args.end.now c.answer.result c.in_ok-tree.ensures.in_proportion c.in_ok-tree.ensures.sources
+    (c.answer.ensures.made (html_tree page).trees ns rows asked) c.answer.ensures.fits
+
+pub returns-clause-told : goal.returns-clause-told
+returns-clause-told c =
+    refused c.args.page.now c.in_ok-tree.tree c.in_ok-tree.ensures.tree c.args.question.now c.answer.result c.in_ok-tree.ensures.in_proportion
+    c.in_ok-tree.ensures.sources c.answer.ensures.told

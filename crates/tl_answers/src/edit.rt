@@ -1,10 +1,10 @@
 //! Changes of tags and elements.
-ghost use Rattle.std.specs.Prelude.{IfErr, IfOk};
+ghost use Rattle.std.specs.Prelude.{IfErr, IfOk, ◌≡◌};
 ghost use Rattle.tl_patch_edit.specs.View.{patch_view};
 ghost use Rattle.tl_patch.specs.PatchView.{change_view};
 ghost use Rattle.tl_patch_select.specs.Edited.{IsEditedWhere};
 ghost use Rattle.tl_patch_select.specs.Patched.{IsPatchedWhere};
-ghost use Rattle.tl_cli.specs.Edits.{IsDone, IsElementRefusal, IsTagRefusal, IsUndone};
+ghost use Rattle.tl_answers.specs.Edits.{IsDone, IsElementRefusal, IsTagRefusal, IsUndone, refusal_of_read};
 
 use std::alloc::Global;
 use tl_css::Selector;
@@ -13,6 +13,7 @@ use tl_patch_edit::ElementPatch;
 use tl_patch_select::{
     Patched, SelectionEditError, SelectionPatchError, edit_selected, patch_selected,
 };
+use tl_tree::{ReadError, Tree};
 
 /// What is done where a selector holds. Keys and names are in lower case.
 #[derive(Drop)]
@@ -32,22 +33,36 @@ pub enum Edit<'w> {
 pub enum Refusal {
     Tag(SelectionPatchError),
     Element(SelectionEditError),
+    /// The page isn't read.
+    Unread(ReadError),
     OutOfMemory,
+}
+
+impl From<ReadError> for Refusal {
+    ghost from_gives = { λ error why. why ≡ refusal_of_read error };
+
+    fn from(error: ReadError) -> Self {
+        match error {
+            ReadError::OutOfMemory => Refusal::OutOfMemory,
+            _ => Refusal::Unread(error),
+        }
+    }
 }
 
 // A page with the tags changed where a selector holds.
 fn with_tags(
     alloc: Global,
-    page: &str,
+    page: &[u8],
+    tree: &Tree<'_>,
     selector: &Selector,
     change: Change<'_>,
 ) -> Result<Patched, Refusal>
     ensures done { IfOk result (λ p. IsPatchedWhere selector.now (change_view change.entry)
-        page.now p.bytes.items p.places.items) }
+        tree.now page.now p.bytes.items p.places.items) }
     ensures told { IfErr result
-        (IsTagRefusal selector.now (change_view change.entry) page.now) }
+        (IsTagRefusal selector.now (change_view change.entry) tree.now page.now) }
 {
-    match patch_selected(alloc, page, selector, change) {
+    match patch_selected(alloc, page, tree, selector, change) {
         Ok(patched) => Ok(patched),
         Err(SelectionPatchError::OutOfMemory) => Err(Refusal::OutOfMemory),
         Err(error) => Err(Refusal::Tag(error)),
@@ -57,16 +72,17 @@ fn with_tags(
 // A page with the elements changed where a selector holds.
 fn with_elements(
     alloc: Global,
-    page: &str,
+    page: &[u8],
+    tree: &Tree<'_>,
     selector: &Selector,
     patch: ElementPatch<'_>,
 ) -> Result<Patched, Refusal>
     ensures done { IfOk result (λ p. IsEditedWhere selector.now (patch_view patch.entry)
-        page.now p.bytes.items p.places.items) }
+        tree.now page.now p.bytes.items p.places.items) }
     ensures told { IfErr result
-        (IsElementRefusal selector.now (patch_view patch.entry) page.now) }
+        (IsElementRefusal selector.now (patch_view patch.entry) tree.now page.now) }
 {
-    match edit_selected(alloc, page, selector, patch) {
+    match edit_selected(alloc, page, tree, selector, patch) {
         Ok(patched) => Ok(patched),
         Err(SelectionEditError::OutOfMemory) => Err(Refusal::OutOfMemory),
         Err(error) => Err(Refusal::Element(error)),
@@ -74,16 +90,17 @@ fn with_elements(
 }
 
 impl Edit<'_> {
-    /// A page with this done where a selector holds.
-    pub fn patched(
+    /// A page with this done where a selector holds in its tree.
+    pub(crate) fn patched(
         &self,
         alloc: Global,
-        page: &str,
+        page: &[u8],
+        tree: &Tree<'_>,
         selector: &Selector,
     ) -> Result<Patched, Refusal>
         ensures done { IfOk result (λ p.
-            IsDone self.now selector.now page.now p.bytes.items p.places.items) }
-        ensures told { IfErr result (IsUndone self.now selector.now page.now) }
+            IsDone self.now selector.now tree.now page.now p.bytes.items p.places.items) }
+        ensures told { IfErr result (IsUndone self.now selector.now tree.now page.now) }
     {
         match self {
             Edit::Set(key, value) => {
@@ -91,21 +108,21 @@ impl Edit<'_> {
                     key: key.as_bytes(),
                     value: value.as_bytes(),
                 };
-                with_tags(alloc, page, selector, change)
+                with_tags(alloc, page, tree, selector, change)
             }
             Edit::Unset(key) => {
                 let change = Change::Unset {
                     key: key.as_bytes(),
                 };
-                with_tags(alloc, page, selector, change)
+                with_tags(alloc, page, tree, selector, change)
             }
             Edit::Rename(name) => {
                 let patch = ElementPatch::Rename {
                     name: name.as_bytes(),
                 };
-                with_elements(alloc, page, selector, patch)
+                with_elements(alloc, page, tree, selector, patch)
             }
-            Edit::Element(patch) => with_elements(alloc, page, selector, *patch),
+            Edit::Element(patch) => with_elements(alloc, page, tree, selector, *patch),
         }
     }
 }

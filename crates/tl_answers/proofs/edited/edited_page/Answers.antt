@@ -1,0 +1,32 @@
+use Rattle.std.proofs.Common.{rules, Err, List, ℕ, ◌≡◌}
+use Rattle.tl_answers.specs.Edits.{IsOfPage, refusal_of_read}
+use Rattle.tl_answers.proofs.Edits.{done_of_page, read_refused, undone_of_page, unread_page}
+use Rattle.tl_answers.proofs.edited.edited_page.Goals as goal
+
+pub returns-clause-done : goal.returns-clause-done
+returns-clause-done c =
+    let tree = c.in_ok-tree.tree in
+    let of_page : IsOfPage c.args.page.now tree = record {
+      rows = c.in_ok-tree.ensures.tree;
+      quirks = c.in_ok-tree.ensures.quirks;
+      sources = c.in_ok-tree.ensures.sources;
+    } in
+    done_of_page c.args.edit.now c.args.selector.now c.args.page.now tree c.patched.result of_page c.patched.ensures.done
+
+pub returns-clause-told : goal.returns-clause-told
+returns-clause-told c =
+    let tree = c.in_ok-tree.tree in
+    let of_page : IsOfPage c.args.page.now tree = record {
+      rows = c.in_ok-tree.ensures.tree;
+      quirks = c.in_ok-tree.ensures.quirks;
+      sources = c.in_ok-tree.ensures.sources;
+    } in
+    undone_of_page c.args.edit.now c.args.selector.now c.args.page.now tree c.patched.result of_page c.patched.ensures.told
+
+pub returns-in_err-tree-clause-told : goal.returns-in_err-tree-clause-told
+returns-in_err-tree-clause-told c =
+    let page : List ℕ = c.args.page.now in
+    let error = c.in_err-tree.field-0.0 in
+    let is : c.from_residual.result ≡ Err (refusal_of_read error) = search rules in
+    rw is (unread_page c.args.edit.now c.args.selector.now page error
+    (read_refused page c.read.result error c.in_err-tree.was (λ at h. search (rules, h)) (λ at h. search (rules, h))))
