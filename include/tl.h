@@ -282,6 +282,7 @@ static inline const char *tl_cause_text(uint8_t cause) {
     case 21: return "nothing can stand behind the end of the page";
     case 22: return "what is put can't stand there";
     case 23: return "a browser may read a raw text as markup there";
+    case 24: return "this element has no tag in the page: browsers put it in here";
     default: return "no cause";
     }
 }
@@ -324,13 +325,15 @@ enum {
 
 /* Why tags can't be changed so, beside the causes above; then the place is one of the page. */
 enum {
-    TL_NO_START_TAG = 16,  /* the selector holds at an element that comes of an end tag here, as of `</p>` alone */
+    TL_NO_START_TAG = 16,  /* the tokenizer by itself reads no start tag here, as in a `title` of an `svg` */
     TL_NOT_WRITTEN = 17,   /* this key or this value can't be written in the tag that begins here; keys are in lower case */
-    TL_READ_OTHERWISE = 18 /* of tl_edit_css alone: the page would be read otherwise than asked */
+    TL_READ_OTHERWISE = 18, /* of tl_edit_css alone: the page would be read otherwise than asked */
+    TL_UNTAGGED = 24       /* the selector holds at an element that no tag stands for, as a `tbody` that browsers put in: the place is
+                              where begins what it was put in before */
 };
 
 /* The page with a key set or unset in the start tag of each element where a selector of CSS holds, and with each other byte as it was:
- * it isn't printed anew. It is read as browsers read it. Where the selector holds nowhere the answer is the page. Where the bytes are no
+ * it isn't printed anew. The selector is asked of the tree that browsers build. Where it holds nowhere the answer is the page. Where the bytes are no
  * selector, or a tag can't be changed, that is refused, and `*place` and `*cause` say why; else both are 0. */
 tl_status tl_patch_css(uint8_t edit, const uint8_t *selector, size_t selector_len,
                        const uint8_t *key, size_t key_len, const uint8_t *value, size_t value_len,
@@ -359,8 +362,9 @@ enum {
 /* Why elements can't be changed so, beside the causes above; the place is that of the element in the page, also with
  * TL_READ_OTHERWISE. */
 enum {
-    TL_NOT_MEANT = 19,   /* the element isn't closed, is a tag alone, its tag is dropped, or it is
-                            a body or html, after which nothing can stand */
+    TL_NOT_MEANT = 19,   /* the element isn't closed, is a tag alone, isn't whole (what is in it went elsewhere, or comes from
+                            elsewhere, as of formatting that is opened again), or it is a body or html, after which nothing can
+                            stand */
     TL_ACROSS = 20,      /* its change and that of another element cut across each other */
     TL_END_OF_PAGE = 21, /* what is put would stand behind the end of the page; none does */
     TL_NO_CONTENT = 22,  /* what is put can't stand there: markup in a raw text, or a text that would be read otherwise */
@@ -369,8 +373,8 @@ enum {
                             there, or the element would get such a name before such a text */
 };
 
-/* The page with each element changed where a selector of CSS holds, and with each other byte as it was. It is read as browsers read it;
- * what is read of the answer is the page with just that changed. An element in what another takes away goes with it. `form` is read with
+/* The page with each element changed where a selector of CSS holds, and with each other byte as it was. The selector is asked of the tree
+ * that browsers build, and that says which bytes an element has; what is read of the answer is the page with just that changed. An element in what another takes away goes with it. `form` is read with
  * a content from TL_REPLACE on; the content of TL_REMOVE and TL_UNWRAP isn't read, and its length may be 0. Where the selector holds
  * nowhere the answer is the page. Where the bytes are no selector, or an element can't be changed, that is refused, and `*place` and
  * `*cause` say why; else both are 0. */

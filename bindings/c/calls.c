@@ -198,8 +198,12 @@ static void of_patch(void) {
     CHECK(is_told(2, TL_NO_PSEUDO_CLASS));
     LEAVES(TL_REFUSED, 0, PATCH(TL_SET, "p", "a b", "c", "x<P>y"));
     CHECK(is_told(1, TL_NOT_WRITTEN));
-    LEAVES(TL_REFUSED, 0, PATCH(TL_SET, "p", "a", "c", "x</p>"));
-    CHECK(is_told(1, TL_NO_START_TAG));
+    PUTS("<table><tr a=\"b\"><td>x</table>", PATCH(TL_SET, "table > tbody > tr", "a", "b", "<table><tr><td>x</table>"));
+    LEAVES(TL_REFUSED, 0, PATCH(TL_SET, "tbody", "a", "c", "<table><tr><td>x</table>"));
+    CHECK(is_told(7, TL_UNTAGGED));
+    PUTS("<p>x", PATCH(TL_UNSET, "*", "a", "", "<p a>x"));
+    LEAVES(TL_REFUSED, 0, PATCH(TL_SET, "b", "a", "c", "<svg><title><b></title></svg>"));
+    CHECK(is_told(12, TL_NO_START_TAG));
     LEAVES(TL_NOT_UNDERSTOOD, 0, PATCH(2, "p", "a", "b", "<P>x"));
     LEAVES(TL_NOT_UNDERSTOOD, 0, PATCH(TL_SET, "\xff", "a", "b", "<P>x"));
     LEAVES(TL_NOT_UNDERSTOOD, 0, PATCH(TL_SET, "p", "a", "b", "\xff"));
@@ -239,7 +243,9 @@ static void of_elements(void) {
     LEAVES(TL_REFUSED, 0, EDIT(TL_RENAME, 9, "b", "svg", "<b><style>&</style></b>"));
     CHECK(is_told(0, TL_MISREAD));
     LEAVES(TL_REFUSED, 0, EDIT(TL_REMOVE, 0, "p", "", "x</p>"));
-    CHECK(is_told(1, TL_NO_START_TAG));
+    CHECK(is_told(5, TL_UNTAGGED));
+    LEAVES(TL_REFUSED, 0, EDIT(TL_REMOVE, 0, "b", "", "<svg><title><b></title></svg>"));
+    CHECK(is_told(12, TL_NO_START_TAG));
     PUTS("<p>xy", EDIT(TL_APPEND, TL_AS_TEXT, "p", "y", "<p>x"));
     LEAVES(TL_NOT_UNDERSTOOD, 0, EDIT(9, TL_AS_TEXT, "p", "a", "<P>x</P>"));
     LEAVES(TL_NOT_UNDERSTOOD, 0, EDIT(TL_FILL, 2, "p", "a", "<P>x</P>"));

@@ -333,7 +333,18 @@ class Changes(unittest.TestCase):
         self.assertEqual((it.exception.place, it.exception.cause), (2, 9))
         with self.assertRaises(ChangeError) as it:
             set_attribute(self.page, "p", "a", "b")
-        self.assertEqual((self.page[it.exception.place :], str(it.exception)), ("</p>", "at 47: this element has no start tag"))
+        self.assertEqual(str(it.exception), "at 51: this element has no tag in the page: browsers put it in here")
+        self.assertEqual(it.exception.cause, 24)
+        with self.assertRaises(ChangeError) as it:
+            set_attribute("é<table><tr><td>x</table>", "tbody", "a", "b")
+        self.assertEqual((it.exception.place, it.exception.cause), (8, 24))
+        with self.assertRaises(OutOfProportion):
+            set_attribute("<p>" + "".join(f"<font size={it}>" for it in range(2_000)) + "<p>x" * 100, "p", "a", "b")
+
+    def test_trees_are_asked(self):
+        page = "<table><tr><td>x</table>"
+        self.assertEqual(set_attribute(page, "table > tbody > tr", "a", "b"), page.replace("<tr>", '<tr a="b">'))
+        self.assertEqual(unset_attribute("<p a=b>x", "*", "a"), "<p>x")
 
 
 class Elements(unittest.TestCase):

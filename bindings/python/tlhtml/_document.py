@@ -152,7 +152,7 @@ def _changed(call: Callable[..., int], numbers: list[int], html: str, selector: 
     if cause.value:
         raise SelectorError(selector, _characters(asked, place.value), cause.value)
     if status != DONE:
-        raise error_of(status)
+        raise page_error_of(status, page)
     return room.text()
 
 

@@ -25,6 +25,7 @@ CAUSES = {
     21: "nothing can stand behind the end of the page",
     22: "what is put can't stand there",
     23: "a browser may read a raw text as markup there",
+    24: "this element has no tag in the page: browsers put it in here",
 }
 
 REASONS = {
@@ -53,7 +54,7 @@ class Error(Exception):
 
 
 class TooLong(Error, ValueError):
-    """The page, or of a change what it is written down as while it is read, has more than 4294967295 bytes."""
+    """The page has more than 4294967295 bytes."""
 
 
 class OutOfProportion(Error, ValueError):

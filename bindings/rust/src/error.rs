@@ -109,14 +109,14 @@ causes! {
     TooDeep = 14, "too many selectors inside one another";
     /// This byte can't stand here.
     Unexpected = 15, "this can't stand here";
-    /// The selector holds at an element that comes of an end tag here, as of `</p>` alone.
+    /// The tokenizer by itself reads no start tag here, as in a `title` of an `svg`.
     NoStartTag = 16, "this element has no start tag";
     /// This key or this value can't be written in the tag that begins here.
     NotWritten = 17, "this tag can't be changed so";
     /// The page would be read otherwise than asked.
     ReadOtherwise = 18, "the page would be read otherwise than asked";
-    /// The element isn't closed, is a tag alone, its tag is dropped, or it is a `body` or `html`,
-    /// after which nothing can stand.
+    /// The element isn't closed, is a tag alone, isn't whole (what is in it went elsewhere, or comes
+    /// from elsewhere), or it is a `body` or `html`, after which nothing can stand.
     NotMeant = 19, "this element can't be changed so: it isn't closed, or is a tag alone";
     /// The change of the element and that of another cut across each other.
     Across = 20, "this change and that of another element cut across each other";
@@ -128,4 +128,6 @@ causes! {
     /// stands behind a `svg`, `math`, `frameset`, `template`, `noscript` or `select`: such a text
     /// would be put there, or the element would get such a name before such a text.
     Misread = 23, "a browser may read a raw text as markup there";
+    /// The selector holds at an element that no tag stands for, as a `tbody` that browsers put in.
+    Untagged = 24, "this element has no tag in the page: browsers put it in here";
 }

@@ -42,13 +42,13 @@ fn patch(edit: u8, page: &str, selector: &str, key: &str, value: &str) -> Result
             &mut cause,
         )
     });
-    patched.map_err(|status| error_of(status, place, cause))
+    patched.map_err(|status| error_of(status, page, place, cause))
 }
 
 // Why a page isn't changed.
-fn error_of(status: u8, place: usize, cause: u8) -> Error {
+fn error_of(status: u8, page: &str, place: usize, cause: u8) -> Error {
     match cause {
-        0 => calls::error_of(status),
+        0 => calls::page_error_of(status, page),
         1..16 => Error::NoSelector {
             place,
             cause: Cause::of_number(cause),
@@ -148,5 +148,5 @@ pub fn edit(page: &str, selector: &str, edit: Edit<'_>) -> Result<String, Error>
             &mut cause,
         )
     });
-    edited.map_err(|status| error_of(status, place, cause))
+    edited.map_err(|status| error_of(status, page, place, cause))
 }

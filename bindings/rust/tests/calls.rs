@@ -553,7 +553,7 @@ fn changes() {
         set_attribute(page, "p ]", "a", "b"),
         Err(Error::NoSelector { place, cause })
     );
-    let (place, cause) = (47, Cause::NoStartTag);
+    let (place, cause) = (51, Cause::Untagged);
     assert_eq!(
         set_attribute(page, "p", "a", "b"),
         Err(Error::NotChanged { place, cause })

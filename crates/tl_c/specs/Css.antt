@@ -1,9 +1,7 @@
 -- What a selector of CSS says of the document that is held, if one is.
-use Rattle.std.specs.Prelude.{◌≡◌, ◌↔◌, ◌⊎◌, ◌<◌, ℕ, Bool, true, false, List, length, Option, None, Some, MatchOption, Result, Ok, Err, ⊤, if◌then◌else◌, slice_get}
+use Rattle.std.specs.Prelude.{◌≡◌, ◌↔◌, ◌⊎◌, ℕ, Bool, true, false, List, Option, None, Some, MatchOption, Result, Ok, Err, ⊤, if◌then◌else◌, slice_get}
 use Rattle.std.specs.Result.{result_err}
 use Rattle.std.specs.Str.{is_utf8}
-use Rattle.tl_spec.specs.Lex.ByteClass.{largest_u32}
-use Rattle.tl_html_spec.specs.HtmlForm.{html_form}
 use Rattle.tl_css.specs.Reading.{css_at}
 use Rattle.tl_css.specs.Relative.{relative_at}
 use Rattle.tl_css.specs.Selector.{Css}
@@ -15,6 +13,7 @@ use Rattle.tl_tree.specs.declared.tree.Tree.{Tree}
 use Rattle.tl_tree_select.specs.Meaning.{AreFound, AreFoundBelow, Holds, IsClosest, IsFirst, IsFound, IsUpTo}
 use Rattle.tl_tree_select.specs.Page.{page_from, page_of}
 use Rattle.tl_page.specs.Outcome.{Outcome, not_understood, refused, success}
+use Rattle.tl_c.specs.Readings.{IsReadable}
 use Rattle.tl_c.specs.Queries.{outcome_of_some, tree_held, tree_in}
 use Rattle.tl_c.specs.declared.css.Reading.{Reading}
 use Rattle.tl_c.specs.declared.css.Reading.TheVariants.{Relative, Whole}
@@ -68,11 +67,10 @@ abbrev pub css_in : List ℕ → Outcome Css
 css_in text = css_by Whole text
 
 -- a selector, a change and a page with which nothing can be asked: the selector is no text, the
--- change is none, or the page is no text, or there is no room for it or its form
+-- change is none, or the page can't be read
 abbrev pub IsUnasked : {X : Type 0} → List ℕ → Option X → List ℕ → Type 0
 IsUnasked selector asked page = (is_utf8 selector ≡ false) ⊎ ((asked ≡ None)
-    ⊎ ((is_utf8 page ≡ false)
-    ⊎ ((largest_u32 < length page) ⊎ (largest_u32 < length (html_form page)))))
+    ⊎ (IsReadable page → ⊥))
 
 -- what is said of a selector and of a tree, where both are there
 abbrev pub IfBoth : (Css → Tree → Type 0) → Outcome Css → Option Tree → Type 0

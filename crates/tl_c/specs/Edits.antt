@@ -1,15 +1,17 @@
 -- Elements of a page changed where a selector of CSS holds.
-use Rattle.std.specs.Prelude.{◌≡◌, ◌==◌, ℕ, List, Option, None, Some, option_and_then, if◌then◌else◌}
+use Rattle.std.specs.Prelude.{◌≡◌, ◌==◌, ℕ, List, Option, None, Some, option_and_then, if◌then◌else◌, ⊤}
 use Rattle.tl_css.specs.Selector.{Css}
 use Rattle.tl_page.specs.Outcome.{Outcome, success}
-use Rattle.tl_patch_edit.specs.declared.error.EditError.{EditError}
 use Rattle.tl_patch_edit.specs.declared.error.EditError.TheVariants as edit
-use Rattle.tl_patch_select.specs.Edited.{IsEditedWhere, IsRefusedWhere}
+use Rattle.tl_patch_select.specs.Edited.{IsEditedWhere}
+use Rattle.tl_patch_select.specs.Reasons.{IsElementReason}
 use Rattle.tl_patch_select.specs.declared.edit_error.SelectionEditError.{SelectionEditError}
-use Rattle.tl_patch_select.specs.declared.edit_error.SelectionEditError.TheVariants.{Refused, TooLong, OutOfMemory}
+use Rattle.tl_patch_select.specs.declared.edit_error.SelectionEditError.TheVariants.{OutOfMemory, Refused, Untagged}
 use Rattle.tl_patch_spec.specs.Patches.{Append, Content, Fill, Markup, Patch, Prepend, PutAfter, PutBefore, Remove, RenameElement, ReplaceWith, Text, Unwrap}
 use Rattle.tl_c.specs.Css.{css_in}
 use Rattle.tl_c.specs.Puts.{Puts}
+use Rattle.tl_c.specs.Readings.{IsOfPage}
+use Rattle.tl_tree.specs.declared.tree.Tree.{Tree}
 
 -- the content that bytes are, as a number says
 abbrev pub content_of_number : ℕ → List ℕ → Option Content
@@ -41,8 +43,10 @@ patch_of_number number form content =
 pub record IsEditedBy (selector : List ℕ) (patch : Patch) (page text : List ℕ) : Type 0 where
   pub css : Css
   pub reads : css_in selector ≡ success css
+  pub tree : Tree
+  pub of_page : IsOfPage page tree
   pub places : List ℕ
-  pub edited : IsEditedWhere css patch page text places
+  pub edited : IsEditedWhere css patch tree page text places
 
 -- the same of a patch that may not be one: then nothing is given
 abbrev pub IsEditedIf : List ℕ → Option Patch → List ℕ → List ℕ → Type 0
@@ -59,7 +63,7 @@ number_of_edit_error (Refused (edit.NotWritten place)) = 22
 number_of_edit_error (Refused (edit.Misread place cause)) = 23
 number_of_edit_error (Refused (edit.ReadOtherwise place)) = 18
 number_of_edit_error (Refused edit.OutOfMemory) = 0
-number_of_edit_error TooLong = 0
+number_of_edit_error (Untagged at) = 24
 number_of_edit_error OutOfMemory = 0
 
 -- where in the page the element begins, 0 where there is none
@@ -72,12 +76,14 @@ place_of_edit_error (Refused (edit.NotWritten place)) = place
 place_of_edit_error (Refused (edit.Misread place cause)) = place
 place_of_edit_error (Refused (edit.ReadOtherwise place)) = place
 place_of_edit_error (Refused edit.OutOfMemory) = 0
-place_of_edit_error TooLong = 0
+place_of_edit_error (Untagged at) = at
 place_of_edit_error OutOfMemory = 0
 
--- it says why an element can't be changed
+-- an error that is told by its number and its place, and not by the status
 abbrev pub IsEditRefusal : SelectionEditError → Type 0
-IsEditRefusal error = (why : EditError) × (error ≡ Refused why)
+IsEditRefusal (Refused error) = ⊤
+IsEditRefusal (Untagged at) = ⊤
+IsEditRefusal _ = ⊥
 
 -- this patch of the elements where the selector that bytes are holds is refused, where and why the
 -- numbers say
@@ -87,10 +93,13 @@ pub record IsEditRefused (selector : List ℕ) (patch : Option Patch) (page : Li
   pub reads : css_in selector ≡ success css
   pub asked : Patch
   pub is : patch ≡ Some asked
-  pub error : EditError
-  pub refused : IsRefusedWhere css asked page error
-  pub stands : place ≡ place_of_edit_error (Refused error)
-  pub why : cause ≡ number_of_edit_error (Refused error)
+  pub error : SelectionEditError
+  pub tree : Tree
+  pub of_page : IsOfPage page tree
+  pub refused : IsElementReason css asked tree page error
+  pub reason : IsEditRefusal error
+  pub stands : place ≡ place_of_edit_error error
+  pub why : cause ≡ number_of_edit_error error
 
 -- an outcome is put into room (old, and new after the call); its text, if it has one, is the page
 -- with the elements changed

@@ -3,12 +3,11 @@ ghost use Rattle.std.specs.Prelude.{◌≡◌, ◌≢◌, Err, IfOk, IsSome, Non
 ghost use Rattle.std.specs.Option.{option_map};
 ghost use Rattle.tl_page.specs.declared.failure.Failure.TheVariants.{Fault, NotUnderstood, OutOfMemory, Refused};
 ghost use Rattle.tl_patch_edit.specs.View.{content_view, patch_view};
-ghost use Rattle.tl_patch_select.specs.declared.edit_error.SelectionEditError.TheVariants.{TooLong};
 ghost use Rattle.tl_c.specs.Css.{IsTold, IsUnasked, wrong_in};
 ghost use Rattle.tl_c.specs.Edits.{IsEditRefusal, IsEditRefused, IsEditedIf, content_of_number, number_of_edit_error, patch_of_number, place_of_edit_error, placed_of_number};
 
 use crate::css::{Reading, read_selector};
-use crate::text::text_of;
+use crate::reading::tree_of;
 use std::alloc::Global;
 use tl_page::Failure;
 use tl_patch_edit::{Content, EditError, ElementPatch};
@@ -58,7 +57,7 @@ fn report(error: SelectionEditError, place: &mut usize, cause: &mut u8) -> Failu
     ensures cause { cause.new ≡ number_of_edit_error error }
     ensures failure { result ≢ Fault }
     ensures refused { result ≡ Refused → IsEditRefusal error }
-    ensures understood { result ≡ NotUnderstood → error ≡ TooLong }
+    ensures understood { result ≢ NotUnderstood }
 {
     let (at, why, failure) = match error {
         SelectionEditError::Refused(EditError::NoStartTag(at)) => (at, 16, Failure::Refused),
@@ -69,7 +68,7 @@ fn report(error: SelectionEditError, place: &mut usize, cause: &mut u8) -> Failu
         SelectionEditError::Refused(EditError::Misread(at, _)) => (at, 23, Failure::Refused),
         SelectionEditError::Refused(EditError::ReadOtherwise(at)) => (at, 18, Failure::Refused),
         SelectionEditError::Refused(EditError::OutOfMemory) => (0, 0, Failure::OutOfMemory),
-        SelectionEditError::TooLong => (0, 0, Failure::NotUnderstood),
+        SelectionEditError::Untagged(at) => (at, 24, Failure::Refused),
         SelectionEditError::OutOfMemory => (0, 0, Failure::OutOfMemory),
     };
     *place = at;
@@ -107,7 +106,8 @@ pub(crate) fn edit_elements(
     let Some(patch) = patch_of(number, form, content) else {
         return Err(Failure::NotUnderstood);
     };
-    match edit_selected(alloc, text_of(page)?, &selector, patch) {
+    let tree = tree_of(alloc, page)?;
+    match edit_selected(alloc, page, &tree, &selector, patch) {
         Ok(edited) => {
             let Patched {
                 bytes,

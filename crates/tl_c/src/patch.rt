@@ -3,12 +3,11 @@ ghost use Rattle.std.specs.Prelude.{◌≡◌, ◌≢◌, Err, IfOk, IsSome, Non
 ghost use Rattle.std.specs.Option.{option_map};
 ghost use Rattle.tl_page.specs.declared.failure.Failure.TheVariants.{Fault, NotUnderstood, OutOfMemory, Refused};
 ghost use Rattle.tl_patch.specs.PatchView.{change_view};
-ghost use Rattle.tl_patch_select.specs.declared.error.SelectionPatchError.TheVariants.{TooLong};
 ghost use Rattle.tl_c.specs.Css.{IsTold, IsUnasked, wrong_in};
 ghost use Rattle.tl_c.specs.Patches.{IsChangeRefusal, IsPatchRefused, IsPatchedIf, change_of_number, number_of_patch_error, place_of_patch_error};
 
 use crate::css::{Reading, read_selector};
-use crate::text::text_of;
+use crate::reading::tree_of;
 use std::alloc::Global;
 use tl_page::Failure;
 use tl_patch::Change;
@@ -31,12 +30,12 @@ fn report(error: SelectionPatchError, place: &mut usize, cause: &mut u8) -> Fail
     ensures cause { cause.new ≡ number_of_patch_error error }
     ensures failure { result ≢ Fault }
     ensures refused { result ≡ Refused → IsChangeRefusal error }
-    ensures understood { result ≡ NotUnderstood → error ≡ TooLong }
+    ensures understood { result ≢ NotUnderstood }
 {
     let (at, why, failure) = match error {
         SelectionPatchError::NoStartTag(at) => (at, 16, Failure::Refused),
         SelectionPatchError::NotWritten(at) => (at, 17, Failure::Refused),
-        SelectionPatchError::TooLong => (0, 0, Failure::NotUnderstood),
+        SelectionPatchError::Untagged(at) => (at, 24, Failure::Refused),
         SelectionPatchError::OutOfMemory => (0, 0, Failure::OutOfMemory),
     };
     *place = at;
@@ -74,7 +73,8 @@ pub(crate) fn patch(
     let Some(change) = change_of(number, key, value) else {
         return Err(Failure::NotUnderstood);
     };
-    match patch_selected(alloc, text_of(page)?, &selector, change) {
+    let tree = tree_of(alloc, page)?;
+    match patch_selected(alloc, page, &tree, &selector, change) {
         Ok(patched) => {
             let Patched {
                 bytes,

@@ -16,7 +16,7 @@ const FLAGS: Flags = Flags {
 };
 
 // The tree of a text, which refers to it.
-fn tree_of(alloc: Global, text: &[u8]) -> Result<Tree<'_>, Failure>
+fn tree_of_text(alloc: Global, text: &[u8]) -> Result<Tree<'_>, Failure>
     ensures tree { IfOk result (IsOfPage text.now) }
     ensures in_proportion { OnOk result (is_in_proportion_by standard text.now ≡ true) }
     ensures unread { IfErr result (IsUnread text.now) }
@@ -31,6 +31,18 @@ fn tree_of(alloc: Global, text: &[u8]) -> Result<Tree<'_>, Failure>
     }
 }
 
+/// The tree of a page, which refers to it.
+pub(crate) fn tree_of(alloc: Global, page: &[u8]) -> Result<Tree<'_>, Failure>
+    ensures tree { IfOk result (IsOfPage page.now) }
+    ensures readable { OnOk result (IsReadable page.now) }
+    ensures unread { IfErr result (IsUnread page.now) }
+    ensures no_text { ¬ (IsUtf8 page.now) → result ≡ Err NotUnderstood }
+    ensures long { u32.MAX < length page.now → result ≡ Err NotUnderstood }
+{
+    let text = text(page)?;
+    tree_of_text(alloc, text.as_bytes())
+}
+
 /// The tree of a page, with a copy of the page.
 pub(crate) fn read(alloc: Global, page: &[u8]) -> Result<Box<ParsedPage>, Failure>
     ensures tree { IfOk result (λ own. IsOfPage page.now own.value.tree) }
@@ -39,8 +51,7 @@ pub(crate) fn read(alloc: Global, page: &[u8]) -> Result<Box<ParsedPage>, Failur
     ensures no_text { ¬ (IsUtf8 page.now) → result ≡ Err NotUnderstood }
     ensures long { u32.MAX < length page.now → result ≡ Err NotUnderstood }
 {
-    let text = text(page)?;
-    let read = tree_of(alloc, text.as_bytes())?;
+    let read = tree_of(alloc, page)?;
     let tree = read.into_owned(alloc)?;
     Ok(Box::new(alloc, ParsedPage { tree }).map_err(AllocError::from)?)
 }

@@ -1,15 +1,12 @@
-use Rattle.std.proofs.Common.{◌≡◌, ◌⊎◌, ◌<◌, inl, inr, length, ◌∙◌, List, ℕ, Option, Some, Err, ap, rules, subst, sym}
+use Rattle.std.proofs.Common.{◌≡◌, inl, ◌∙◌, Option, Some, Err, ap, rules, subst, sym}
 use Rattle.std.specs.Option.{option_map}
-use Rattle.tl_spec.specs.Lex.ByteClass.{largest_u32}
-use Rattle.tl_html_spec.specs.HtmlForm.{html_form}
 use Rattle.tl_page.specs.Outcome.{Fails}
 use Rattle.tl_page.specs.declared.failure.Failure.{Failure}
 use Rattle.tl_page.specs.declared.failure.Failure.TheVariants.{Fault, NotUnderstood, OutOfMemory, Refused}
 use Rattle.tl_patch_edit.specs.View.{patch_view}
-use Rattle.tl_patch_select.specs.Edited.{IsEditedWhere, IsRefusedWhere}
 use Rattle.tl_patch_spec.specs.Patches.{Patch}
 use Rattle.tl_c.specs.Css.{css_in}
-use Rattle.tl_c.specs.Edits.{IsEditedIf, number_of_edit_error, patch_of_number, place_of_edit_error}
+use Rattle.tl_c.specs.Edits.{IsEditedIf, patch_of_number}
 use Rattle.tl_c.proofs.Selectors.{lost_text, none_refused, right_none, wrong_failure}
 use Rattle.tl_c.proofs.element_edit.edit_elements.Goals as goal
 
@@ -31,7 +28,9 @@ returns-in-Ok-clause-edited c =
       css = css;
       reads = c.in_ok-selector.ensures.reads;
       places = places;
-      edited = subst (λ (page : List ℕ). IsEditedWhere css patch page bytes places) c.in_ok-text_of.ensures.text c.in-Ok.ensures.edited;
+      tree = c.in_ok-tree.tree;
+      of_page = c.in_ok-tree.ensures.tree;
+      edited = c.in-Ok.ensures.edited;
     })
 
 pub returns-in_err-selector-clause-wrong : goal.returns-in_err-selector-clause-wrong
@@ -44,8 +43,8 @@ returns-in_err-selector-clause-wrong c = λ some other.
 pub returns-in_default-clause-wrong : goal.returns-in_default-clause-wrong
 returns-in_default-clause-wrong c = λ some _. absurd (right_none c.args.selector.now c.in_ok-selector.selector c.in_ok-selector.ensures.reads some)
 
-pub returns-in_err-text_of-clause-wrong : goal.returns-in_err-text_of-clause-wrong
-returns-in_err-text_of-clause-wrong c = λ some _. absurd (right_none c.args.selector.now c.in_ok-selector.selector c.in_ok-selector.ensures.reads some)
+pub returns-in_err-tree-clause-wrong : goal.returns-in_err-tree-clause-wrong
+returns-in_err-tree-clause-wrong c = λ some _. absurd (right_none c.args.selector.now c.in_ok-selector.selector c.in_ok-selector.ensures.reads some)
 
 pub returns-in-Ok-clause-wrong : goal.returns-in-Ok-clause-wrong
 returns-in-Ok-clause-wrong c = λ some _. absurd (right_none c.args.selector.now c.in_ok-selector.selector c.in_ok-selector.ensures.reads some)
@@ -62,19 +61,23 @@ returns-in_err-selector-clause-refused c = λ right is_refused.
 
 pub returns-clause-refused : goal.returns-clause-refused
 returns-clause-refused c = λ _ is_refused.
+    let css = c.in_ok-selector.selector in
     let patch = patch_view c.in-Some.patch in
+    let error = c.in-Err.error in
     let some : patch_of_number c.args.number c.args.form c.args.content.now ≡ Some patch = sym c.patch_of.ensures ∙ ap (option_map patch_view) c.in-Some.is in
     let same : c.report.result ≡ Refused = cc in
-    let why = c.report.ensures.refused same in
     record {
-      css = c.in_ok-selector.selector;
+      css = css;
       reads = c.in_ok-selector.ensures.reads;
       asked = patch;
       is = some;
-      error = why.0;
-      refused = subst (λ (page : List ℕ). IsRefusedWhere c.in_ok-selector.selector patch page why.0) c.in_ok-text_of.ensures.text (c.edit_selected.ensures.refused why.0 (c.in-Err.is ∙ ap Err why.1));
-      stands = c.report.ensures.place ∙ ap place_of_edit_error why.1;
-      why = c.report.ensures.cause ∙ ap number_of_edit_error why.1;
+      error = error;
+      tree = c.in_ok-tree.tree;
+      of_page = c.in_ok-tree.ensures.tree;
+      refused = c.in-Err.ensures.refused;
+      reason = c.report.ensures.refused same;
+      stands = c.report.ensures.place;
+      why = c.report.ensures.cause;
     }
 
 pub returns-in_err-selector-clause-understood : goal.returns-in_err-selector-clause-understood
@@ -87,5 +90,4 @@ returns-in_err-selector-clause-understood c = λ lost.
 pub returns-clause-understood : goal.returns-clause-understood
 returns-clause-understood c = λ lost.
     let same : c.report.result ≡ NotUnderstood = cc in
-    let long = c.report.ensures.understood same in
-    inr (inr (inr (subst (λ (page : List ℕ). (largest_u32 < length page) ⊎ (largest_u32 < length (html_form page))) c.in_ok-text_of.ensures.text (c.edit_selected.ensures.failure (c.in-Err.is ∙ ap Err long)))))
+    absurd (c.report.ensures.understood same)

@@ -7,11 +7,7 @@ use Rattle.tl_c.proofs.reading.read.Goals as goal
 pub returns-clause-tree : goal.returns-clause-tree
 returns-clause-tree c =
     let page : List ℕ = c.args.page.now in
-    let text : List ℕ = c.as_bytes.result.now in
-    let tree : Tree = c.in_ok-read.read in
     let made : Tree = c.in_ok-tree.tree in
-    let same : text ≡ page = search rules in
-    let of_page : IsOfPage page tree = subst (λ (p : List ℕ). IsOfPage p tree) same c.in_ok-read.ensures.tree in
     let kept : c.in_ok-map_err.field-0.value.tree ≡ made = search rules in
     subst (λ (t : Tree). IsOfPage page t) (sym kept)
-    (owned page tree made of_page c.in_ok-tree.ensures.rows c.in_ok-tree.ensures.quirks c.in_ok-tree.ensures.sources)
+    (owned page c.in_ok-read.read made c.in_ok-read.ensures.tree c.in_ok-tree.ensures.rows c.in_ok-tree.ensures.quirks c.in_ok-tree.ensures.sources)

@@ -1,9 +1,9 @@
-use Rattle.tl_c.proofs.Readings.{out_of_proportion}
+use Rattle.std.proofs.Common.{◌≡◌, List, rules, subst, ℕ}
+use Rattle.std.specs.Prelude.{IfOk}
+use Rattle.tl_c.specs.Readings.{IsOfPage}
 use Rattle.tl_c.proofs.reading.tree_of.Goals as goal
 
-pub returns-in-Ok-clause-tree : goal.returns-in-Ok-clause-tree
-returns-in-Ok-clause-tree c = record {
-  rows = c.in-Ok.ensures.tree;
-  quirks = c.in-Ok.ensures.quirks;
-  sources = c.in-Ok.ensures.sources;
-}
+pub returns-clause-tree : goal.returns-clause-tree
+returns-clause-tree c =
+    let same : c.as_bytes.result.now ≡ c.args.page.now = search rules in
+    subst (λ (page : List ℕ). IfOk c.tree_of_text.result (IsOfPage page)) same c.tree_of_text.ensures.tree
