@@ -1,7 +1,7 @@
 //! Texts, and what they say by their mode.
 use std::alloc::Global;
-use tl_html::Mode;
 use tl_html_parts::{CharacterData, characters};
+use tl_html_tokens::Mode;
 
 #[rattlefmt::skip]
 static ROWS: [(Mode, &[u8], &[u8]); 20] = [

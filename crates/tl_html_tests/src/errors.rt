@@ -2,14 +2,8 @@
 use std::alloc::Global;
 use std::fmt::Display;
 use tl_encoding::{DecodeError, EncodingError};
-use tl_html::NormalizeError;
 use tl_patch::PatchError;
 use tl_patch_edit::EditError;
-
-static OF_NORMALIZE: [(NormalizeError, &str); 2] = [
-    (NormalizeError::TooLong, "too long"),
-    (NormalizeError::OutOfMemory, "out of memory"),
-];
 
 static OF_PATCH: [(PatchError, &str); 3] = [
     (PatchError::NoStartTag(7), "no start tag at 7"),
@@ -53,9 +47,6 @@ fn says<E: Display>(alloc: Global, error: &E, text: &str) -> bool {
 
 #[test]
 fn errors_of_pages_have_texts(rt: HostRuntime) {
-    for (error, text) in &OF_NORMALIZE {
-        assert!(rt; says(rt.alloc(), error, text), "{text}");
-    }
     for (error, text) in &OF_DECODE {
         assert!(rt; says(rt.alloc(), error, text), "{text}");
     }

@@ -1,5 +1,5 @@
-//! Worked rows of pages as browsers read them, over the public calls of the crates below `tl_html`
-//! and of those that edit a page in its own bytes.
+//! Worked rows of pages as browsers read them: their tokens, what is written of these, their trees,
+//! and edits of a page in its own bytes.
 #![tactic(auto)]
 
 #[cfg(test)]
@@ -25,8 +25,6 @@ mod encodings;
 #[cfg(test)]
 mod errors;
 #[cfg(test)]
-mod forms;
-#[cfg(test)]
 mod fragments;
 #[cfg(test)]
 mod keys;
@@ -46,8 +44,6 @@ mod references;
 mod said_nodes;
 #[cfg(test)]
 mod selected;
-#[cfg(test)]
-mod sources;
 #[cfg(test)]
 mod splices;
 #[cfg(test)]

@@ -6,7 +6,7 @@ use tl_tree::Tree;
 
 // A page, a selector, and the numbers of the elements where it holds.
 #[rattlefmt::skip]
-static ROWS: [(&[u8], &str, &[usize]); 41] = [
+static ROWS: [(&[u8], &str, &[usize]); 42] = [
     (b"<p>a<p>b", "p", &[3, 5]),
     (b"<P>a", "P", &[3]),
     (b"<p>a<p>b", "body > *", &[3, 5]),
@@ -49,6 +49,7 @@ static ROWS: [(&[u8], &str, &[usize]); 41] = [
     (b"<input type=TEXT><svg type=TEXT>", "[type=text]", &[3]),
     (b"<input name=TEXT>", "[name=text]", &[]),
     (b"<input name=TEXT>", "[name=text i]", &[3]),
+    (b"<ul id='&amp;'><b title='&lt;'>", "#\\& > b[title='<']", &[4]),
     (b"<p a='x y' lang=en-US>", "[a~=y][a^=x][lang|=EN]", &[3]),
     // (what stands in the contents of a template is not of the document)
     (b"<template><p>a<p>b</template><p>c", "p", &[9]),

@@ -1,13 +1,12 @@
 //! Documents, and what is asked of them. One function owns each document: whatever is live there
 //! counts at each step of its proof.
-use crate::edited::{Edit, are_done, is_forest_or};
+use crate::edited::{Edit, are_done};
 use crate::fields::{has_count, is_refused, is_selected};
 use crate::walks::{ends_by, is_walk, is_walk_below};
 use crate::written::{has_cells, has_outline};
 use std::alloc::Global;
 use tl::errors::TreeError;
 use tl::{ParserOptions, VDom};
-use tl_css_select::forest::SelectError;
 use tl_page::{Failure, read};
 
 /// What is asked, with the answer that a row has.
@@ -26,7 +25,6 @@ pub enum Question {
     Fault(Option<TreeError>),
     Table(usize, &'static str),
     Outline(&'static str),
-    Forest(Option<SelectError>),
 }
 
 fn is_answer(
@@ -44,7 +42,6 @@ fn is_answer(
         Question::Fault(error) => Ok(ends_by(alloc, document, *error)),
         Question::Table(number, cells) => has_cells(alloc, document, *number, cells),
         Question::Outline(lines) => has_outline(alloc, document, lines),
-        Question::Forest(error) => Ok(is_forest_or(alloc, document, *error)),
     }
 }
 

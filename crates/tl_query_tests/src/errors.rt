@@ -6,6 +6,10 @@ use tl_patch_select::{SelectionEditError, SelectionPatchError};
 
 static OF_PATCH: [(SelectionPatchError, &str); 4] = [
     (
+        SelectionPatchError::Untagged(7),
+        "the element that is put in at byte 7 has no tag",
+    ),
+    (
         SelectionPatchError::NoStartTag(7),
         "the element at byte 7 has no start tag",
     ),
@@ -13,7 +17,6 @@ static OF_PATCH: [(SelectionPatchError, &str); 4] = [
         SelectionPatchError::NotWritten(7),
         "the tag at byte 7 can't be changed so",
     ),
-    (SelectionPatchError::TooLong, "too long"),
     (SelectionPatchError::OutOfMemory, "out of memory"),
 ];
 
@@ -22,7 +25,10 @@ static OF_EDIT: [(SelectionEditError, &str); 3] = [
         SelectionEditError::Refused(EditError::NotMeant(7)),
         "the element at byte 7 can't be changed so",
     ),
-    (SelectionEditError::TooLong, "too long"),
+    (
+        SelectionEditError::Untagged(7),
+        "the element that is put in at byte 7 has no tag",
+    ),
     (SelectionEditError::OutOfMemory, "out of memory"),
 ];
 

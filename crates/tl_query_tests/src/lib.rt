@@ -3,8 +3,6 @@
 #![tactic(auto)]
 
 #[cfg(test)]
-mod below;
-#[cfg(test)]
 mod chains;
 #[cfg(test)]
 mod documents;

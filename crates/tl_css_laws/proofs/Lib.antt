@@ -1,0 +1,9 @@
+pub mod Found
+pub mod Turned
+pub mod Fresh
+pub mod PlainWords
+pub mod Plain
+pub mod FlatSelectors
+pub mod SharedRuns
+pub mod SharedTexts
+pub mod SharedFound

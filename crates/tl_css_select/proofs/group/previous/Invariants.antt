@@ -1,5 +1,0 @@
-use Rattle.tl_css_select.proofs.Previous.{Gone}
-use Rattle.tl_css_select.proofs.group.previous.Given as goal
-
-abbrev pub invariant-loop-number : goal.invariant-loop-number
-invariant-loop-number l = Gone l.groups l.number l.links.items l.latest.items

@@ -1,7 +1,0 @@
-use Rattle.std.proofs.Common.{◌≡◌, false, take}
-use Rattle.std.specs.List.{list_any}
-use Rattle.tl_css_select.specs.Kin.{follows}
-use Rattle.tl_css_select.proofs.kin.needs.Given as goal
-
-abbrev pub invariant-loop-step : goal.invariant-loop-step
-invariant-loop-step l = list_any (follows l.link) (take l.step-index l.steps) ≡ false

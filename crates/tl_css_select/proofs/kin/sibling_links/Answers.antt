@@ -1,6 +1,0 @@
-use Rattle.tl_css_select.proofs.Siblings.{siblings_to_last}
-use Rattle.tl_css_select.proofs.kin.sibling_links.Goals as goal
-
-pub returns : goal.returns
-returns c needed nodes are =
-    siblings_to_last nodes c.args.groups.now c.in_ok-links.links.items are c.in_ok-links.ensures.len c.in_ok-links.ensures.each

@@ -1,5 +1,0 @@
-use Rattle.tl_css_select.proofs.Found.{found_once}
-use Rattle.tl_css_select.proofs.laws.selectors_find_once.Goals as goal
-
-pub returns : goal.returns
-returns c nodes e ms ns first second = found_once nodes e ms ns first second

@@ -1,5 +1,0 @@
-use Rattle.tl_css_select.proofs.Turned.{turned_twice}
-use Rattle.tl_css_select.proofs.laws.selectors_turned_twice_hold_alike.Goals as goal
-
-pub returns : goal.returns
-returns c = turned_twice

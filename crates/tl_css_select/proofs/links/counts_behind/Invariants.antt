@@ -1,8 +1,0 @@
-use Rattle.tl_css_select.proofs.Behind.{Gathered}
-use Rattle.tl_css_select.proofs.links.counts_behind.Given as goal
-
-abbrev pub invariant-down : goal.invariant-down
-invariant-down l = Gathered l.links l.marks l.number l.counts.items
-
-abbrev pub decreases-down : goal.decreases-down
-decreases-down l = l.number

@@ -1,4 +1,0 @@
--- What the proofs and private functions of this crate cite, and no public clause.
-pub mod Twin
-pub mod Terms
-pub mod Shape
