@@ -1,11 +1,11 @@
 """Compares the programs with others, on made-up pages and on pages in folders.
 
     ./x compare check ..        what `tlq` writes, and its status, with a plain reader written from docs/GRAMMAR.md alone
-    ./x compare edits ..        what the words of `tl` that edit pages make of them with what a plain reader expects, and html5lib
+    ./x compare edits ..        what html5lib builds of pages that `tl` edited with the same done in its tree; what Chromium runs of them
     ./x compare browser ..      what Chromium runs and builds of pages as they stand, and as `tl sanitize` prints them
     ./x compare html ..         a tokenizer written from the HTML standard alone with that of html5lib; tables of names with Python's;
-                                the forms of pages with a model, and with the trees of the standard's own tests;
-                                the definition of tree construction, run, with a model and with these trees; the trees of tl_tree with both
+                                the definition of tree construction, run, with a model and with the trees of the standard's own tests;
+                                the trees of tl_tree with both
     ./x compare pages ..        what `tl` says of pages in a folder with what html5lib and lxml say
     ./x compare selectors ..    what `tl select` finds with a plain reader of selectors of CSS, Chromium and soupsieve
     ./x compare shared ..       which selector texts are read alike as those of the Rust crate and of CSS, by plain readers of both

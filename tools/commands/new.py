@@ -2,8 +2,8 @@
 
     ./x new NAME [LIBRARY..]        a library in crates/NAME that stands on these, with its line in crates.txt
     ./x new --program NAME ..       a program
-    ./x new --workspace DIR         a workspace in the folder DIR, which is not there or empty: `tl_extract` and what it stands on,
-                                    as ./x vendor copies them, and the program `page`, which prints where the links of a page lead:
+    ./x new --workspace DIR         a workspace in the folder DIR, which is not there or empty: `tl_tree_select` and what it stands on,
+                                    as ./x vendor copies them, and the program `page`, which prints what the links of a page say:
                                     the caller that the README shows, with its definition and its clause
 
 What is made compiles (`rt try`) and is proved (`rt check`) as it stands: a crate begins with one function, whose clause cites the
@@ -17,27 +17,35 @@ from ..workspace import ROOT, Stop, Workspace, put, text_of
 
 PROGRAM = "page"
 # The library below the program of a new workspace, and the crate with the caller, whose parts are copied.
-BELOW = "tl_extract"
+BELOW = "tl_tree_select"
 CALLER = "uses"
-PARTS = ("src/values.rt", "specs/Values.antt", "proofs/values/values/Invariants.antt")
-SOURCE = """//! Prints where the links of a page lead.
+PARTS = ("src/values.rt", "specs/Values.antt")
+PROOFS = "proofs/values/values"
+SOURCE = """//! Prints what the links of a page say.
 #![tactic(auto)]
 
 mod values;
 
 use anyhow::Result;
 use std::io::{Read, Write};
-use tl::ParserOptions;
-use tl_page::read;
+use tl_css::parse;
+use tl_tree::{Flags, Tree};
 use values::values;
+
+// Pages are read by the HTML standard, without scripts.
+const FLAGS: Flags = Flags {
+    is_scripting: false,
+    counts_search: true,
+};
 
 fn main(rt: HostRuntime) -> Result<()> {
     let mut page = Vec::new(rt.alloc());
     rt.stdin().read_to_end(&mut page)?;
-    let document = read(rt.alloc(), page.as_slice(), ParserOptions::new())?;
-    let lines = values(rt.alloc(), &document, "a", "href")?;
+    let tree = Tree::read(rt.alloc(), page.as_slice(), FLAGS)?;
+    let links = parse(rt.alloc(), "a")?;
+    let lines = values(rt.alloc(), &tree, &links, "href")?;
     let mut out = rt.stdout();
-    out.write_all(lines.as_bytes())?;
+    out.write_all(lines.as_slice())?;
     out.flush()?;
     Ok(())
 }
@@ -94,17 +102,18 @@ README = """# `{name}`
 
 
 def make_workspace(folder):
-    """Makes a workspace over `tl_extract` with a program."""
+    """Makes a workspace over `tl_tree_select` with a program."""
     if os.path.exists(folder) and os.listdir(folder):
         raise Stop(f"{folder} is not empty")
     os.makedirs(f"{folder}/crates", exist_ok=True)
-    libraries = f"{BELOW} tl_page tl tl_spec anyhow"
-    put(f"{folder}/crates.txt", f"# prints where the links of a page lead\n{PROGRAM}: {libraries}\n")
+    libraries = f"{BELOW} tl_tree tl_css anyhow"
+    put(f"{folder}/crates.txt", f"# prints what the links of a page say\n{PROGRAM}: {libraries}\n")
     put(f"{folder}/HANDLES", "Handles allowed: none.\n")
     put(f"{folder}/.gitignore", "out/\n")
     put(f"{folder}/crates/{PROGRAM}/src/main.rt", SOURCE)
     put(f"{folder}/crates/{PROGRAM}/specs/Lib.antt", "pub mod Values\n")
-    for part in PARTS:
+    proofs = [f"{PROOFS}/{it}" for it in sorted(os.listdir(f"{ROOT}/crates/{CALLER}/{PROOFS}"))]
+    for part in [*PARTS, *proofs]:
         text = text_of(f"{ROOT}/crates/{CALLER}/{part}")
         put(f"{folder}/crates/{PROGRAM}/{part}", text.replace(f"Rattle.{CALLER}.", f"Rattle.{PROGRAM}."))
     vendor(folder, BELOW)

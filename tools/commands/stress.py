@@ -1,9 +1,9 @@
 """Uses the programs as one would who means them harm, and says what is not answered as it must be.
 
-    ./x stress [--sizes 1M,4M] [--jobs N] [--list] [--program FILE] [--tlq FILE] [--tl FILE] [--form FILE]
+    ./x stress [--sizes 1M,4M] [--jobs N] [--list] [--program FILE] [--tlq FILE] [--tl FILE]
     ./x stress --trees [--size 30K] [--jobs N] [--list] [--program FILE]
 
-Six parts, each with a stack of 8 MB:
+Five parts, each with a stack of 8 MB:
 
 - Cuts: broken pages of tools/stress, each text in the tests and in the runs with memory refused, and ten thousand open tags, cut
   at each character boundary. What is read fits its text, borrowed or kept, and the print of a clean document is read as it
@@ -11,9 +11,7 @@ Six parts, each with a stack of 8 MB:
 - Depth: tables of some more than 1,000,000 tags, nested, side by side or falling, selectors of as many parts, and as many
   lines of steps.
 - Length: a page of 64 MB.
-- Growth: pages and selectors that aim at more than linear time, at two sizes, with several commands of `tlq` and of `tl`, and with
-  the program that writes forms.
-- Forms: pages of that kind, cut at some places, all of which have a form.
+- Growth: pages and selectors that aim at more than linear time, at two sizes, with several commands of `tlq` and of `tl`.
 - Meeting: names of attributes whose hashes are alike in the bits by which a map finds them, 1,024 or 2,048 in each of many tags.
 
 A run at the larger size, or at a million, may take at most 2.5 times as much for each byte or part as at the smaller, or at a
@@ -26,8 +24,8 @@ it, and those that take more than 5 times as much of the processor's time or of 
 1 where there is one. What takes less than 10 milliseconds at the smaller size counts as so much: a larger size shows more. It is a
 part of its own, since there still are such pages.
 `tl` and `tlq` are those that the gate builds, unless others are named; what isn't there yet is proved and built first. The program
-that cuts and makes tables, and the one that writes forms (tools/stress, tools/forms), are not proved. They are compiled with
-optimisation, and without run-time checks, since they are timed; --program and --form name others.
+that cuts and makes tables (tools/stress) is not proved. It is compiled with optimisation, and without run-time checks, since it is
+timed; --program names another.
 """
 import contextlib
 import resource
@@ -46,10 +44,6 @@ COUNT = 1000004
 OPEN_TAGS = 10000
 # The bytes of a page that takes no time to read.
 LONG = 64000000
-# So many places a page is cut at whose form is written, and its bytes.
-CUTS, CUT_SIZE = 23, 20000
-# A page, and its form.
-PAGE, FORM = b"<P>a<LI>x & y<li>z", b"<p>a</p><li>x &amp; y</li><li>z</li>\x1e"
 # The least number of texts that the tests have.
 TEXTS = 500
 # How much more names whose hashes meet may take than others.
@@ -94,21 +88,6 @@ def check_length(tlq):
     print(f"stress: a page of {LONG} bytes: as it must be", flush=True)
 
 
-def check_forms(form):
-    """Writes the forms of pages that are cut, and looks at that of one page."""
-    if complete([form], PAGE).out != FORM:
-        raise Stop(f"another form of {PAGE} than {FORM}")
-    whole = [made(CUT_SIZE) for _, made in pages.forms()]
-    given = [page[: place * len(page) // CUTS + place] for page in whole for place in range(CUTS)]
-    try:
-        written = complete([form], "\x1e".join(given).encode()).out.count(b"\x1e")
-    except Stop as wrong:
-        raise Stop(f"forms of pages that are cut: {wrong}") from None
-    if written != len(given):
-        raise Stop(f"{len(given)} pages that are cut, and {written} forms")
-    print(f"stress: {len(whole)} pages, cut at {len(given)} places, have forms: as they must", flush=True)
-
-
 def depths(program, workers):
     """Runs the program on large tables and selectors."""
     asked = ("parts", "lines", "nested", "wide", "falling")
@@ -116,10 +95,8 @@ def depths(program, workers):
     return workers.map(lambda it: [growth(it[0], it[1], (it[2],), (it[3],))], works)
 
 
-def questions(tlq, tl, form):
+def questions(tlq, tl):
     """The program, what is looked at, the commands, and how a page of a size is made."""
-    for name, made in pages.forms():
-        yield form, name, [[]], made
     for name, made in pages.pages():
         yield tlq, name, COMMANDS, made
     for name, selector, made in pages.searches():
@@ -130,17 +107,17 @@ def questions(tlq, tl, form):
         yield tl, name, [["table"]], made
 
 
-def growths(tlq, tl, form, sizes, workers):
+def growths(tlq, tl, sizes, workers):
     """Runs the commands on the pages of both sizes."""
 
     def look(it):
         program, name, commands, made = it
         small, large = (made(size).encode() for size in sizes)
-        who = {tl: ["tl"], form: ["form"]}.get(program, [])
+        who = ["tl"] if program == tl else []
         runs = [(f"{' '.join([*who, *words[:1]])}: {name}", [program, *words]) for words in commands]
         return [growth(name, sizes[1] / sizes[0], (words, small), (words, large)) for name, words in runs]
 
-    return workers.map(look, questions(tlq, tl, form))
+    return workers.map(look, questions(tlq, tl))
 
 
 def meetings(tlq, workers):
@@ -180,10 +157,10 @@ def limited_stack():
         resource.setrlimit(resource.RLIMIT_STACK, before)
 
 
-def check(program=None, tlq=None, tl=None, form=None, sizes=(1000000, 4000000), jobs=None, lists=False):
+def check(program=None, tlq=None, tl=None, sizes=(1000000, 4000000), jobs=None, lists=False):
     """Looks at all parts; a Stop says what is wrong."""
     tlq, tl = (it or programs.proved_build(name) for it, name in ((tlq, "tlq"), (tl, "tl")))
-    program, form = (it or helper_build(name) for it, name in ((program, "stress"), (form, "forms")))
+    program = program or helper_build("stress")
     workers = ThreadPoolExecutor(jobs or min(4, cores()))
     with limited_stack():
         try:
@@ -191,10 +168,9 @@ def check(program=None, tlq=None, tl=None, form=None, sizes=(1000000, 4000000), 
             check_length(tlq)
             open_tags = workers.submit(cut, program, f"{OPEN_TAGS} open tags", "cuts", ["<p>" * OPEN_TAGS], 1000)
             check_cuts(program)
-            check_forms(form)
             tell(f"runs with up to {COUNT} tags or parts", depths(program, workers), lists)
             tell("runs on names whose hashes meet, over others", meetings(tlq, workers), lists)
-            tell(f"runs on pages of {sizes[0]} and {sizes[1]} bytes", growths(tlq, tl, form, sizes, workers), lists)
+            tell(f"runs on pages of {sizes[0]} and {sizes[1]} bytes", growths(tlq, tl, sizes, workers), lists)
             print(open_tags.result(), end="", flush=True)
         finally:
             workers.shutdown(cancel_futures=True)
@@ -219,7 +195,7 @@ def check_trees(program, size, jobs, lists):
 
 
 def main(parser, words):
-    for it in ("program", "tlq", "tl", "form"):
+    for it in ("program", "tlq", "tl"):
         parser.add_argument(f"--{it}", metavar="FILE")
     parser.add_argument("--sizes", default="1M,4M")
     parser.add_argument("--jobs", type=int, metavar="N")
@@ -230,5 +206,5 @@ def main(parser, words):
     if given.trees:
         return 1 if check_trees(given.program, pages.size_of(given.size), given.jobs, given.list) else 0
     sizes = [pages.size_of(it) for it in given.sizes.split(",")]
-    check(given.program, given.tlq, given.tl, given.form, sizes, given.jobs, given.list)
+    check(given.program, given.tlq, given.tl, sizes, given.jobs, given.list)
     return 0

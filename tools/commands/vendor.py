@@ -26,8 +26,8 @@ def check():
         make_workspace(f"{room}/other")
         vendor(f"{room}/other", BELOW)
         other = Workspace(f"{room}/other")
-        if len(re.findall(r"(?m)^tl *:", text_of(f"{other.root}/crates.txt"))) != 1:
-            raise Stop("copied twice, it left another number of lines of tl than one")
+        if len(re.findall(rf"(?m)^{BELOW} *:", text_of(f"{other.root}/crates.txt"))) != 1:
+            raise Stop(f"copied twice, it left another number of lines of {BELOW} than one")
         ran = run([unproved_build(PROGRAM, other)], given=PAGE)
         if ran.status or ran.out != LINES:
             raise Stop(f"the program did not print the links of its page: {ran.ending()}: {ran.said()}")

@@ -3,25 +3,27 @@
 //!
 //! | Words | What is written of the page on standard input |
 //! |---|---|
-//! | `uses values SELECTOR KEY` | the values at a key of the nodes where a selector holds, each on a line |
+//! | `uses values SELECTOR KEY` | the values at a key of the elements where a selector holds, each on a line |
+//! | `uses elements SELECTOR` | the markup of these elements, each behind the other |
 //! | `uses links URL` | where the links of the page lead from this URL, each on a line |
 //! | `uses titles` | its title and its headings, each on a line |
 //! | `uses text` | its text, line by line |
 //! | `uses fill NAME=VALUE ..` | the page with the escaped value in the place of each `{NAME}` in its texts and values |
 //!
-//! `values` and `fill` read the page by the grammar of `tl`, the others as browsers do. It ends
-//! with 0, or with 1 and a line on standard error that says why not.
+//! `fill` reads the page by the grammar of `tl`, the others into the tree that browsers build of
+//! it. It ends with 0, or with 1 and a line on standard error that says why not.
 #![tactic(auto)]
 
+mod elements;
 mod field;
 mod fill;
 mod links;
 mod readable_text;
-mod srcset;
 mod titles;
 mod values;
 
 use anyhow::{Result, bail};
+use elements::elements;
 use field::Field;
 use fill::fill;
 use links::links;
@@ -30,13 +32,20 @@ use std::alloc::Global;
 use std::env;
 use std::io::{Read, Write};
 use titles::titles;
-use tl::ParserOptions;
-use tl_page::{read, text};
+use tl_css::parse;
+use tl_page::text;
+use tl_tree::{Flags, Tree};
 use url::Url;
 use values::values;
 
 const USAGE: &str =
-    "usage: uses values SELECTOR KEY | links URL | titles | text | fill NAME=VALUE .. < page";
+    "usage: uses values SELECTOR KEY | elements SELECTOR | links URL | titles | text | fill NAME=VALUE .. < page";
+
+// Pages are read by the HTML standard, without scripts.
+const FLAGS: Flags = Flags {
+    is_scripting: false,
+    counts_search: true,
+};
 
 fn main(rt: HostRuntime) -> Result<()> {
     let mut words = Vec::new(rt.alloc());
@@ -47,28 +56,43 @@ fn main(rt: HostRuntime) -> Result<()> {
     rt.stdin().read_to_end(&mut page)?;
     let answer = answer(rt.alloc(), words.as_slice(), page.as_slice())?;
     let mut out = rt.stdout();
-    out.write_all(answer.as_bytes())?;
+    out.write_all(answer.as_slice())?;
     out.flush()?;
     Ok(())
 }
 
 // What the words ask for.
-fn answer(alloc: Global, words: &[String], page: &[u8]) -> Result<String> {
+fn answer(alloc: Global, words: &[String], page: &[u8]) -> Result<Vec<u8>> {
+    match words {
+        [word, fields @ ..] if word.as_str() == "fill" => {
+            let fields = fields_of(alloc, fields)?;
+            let filled = fill(alloc, fields.as_slice(), text(page)?)?;
+            Ok(filled.into_bytes())
+        }
+        _ => {
+            let tree = Tree::read(alloc, page, FLAGS)?;
+            ask(alloc, words, &tree)
+        }
+    }
+}
+
+// What they ask of the tree of a page.
+fn ask(alloc: Global, words: &[String], tree: &Tree<'_>) -> Result<Vec<u8>> {
     match words {
         [word, selector, key] if word.as_str() == "values" => {
-            let document = read(alloc, page, ParserOptions::new())?;
-            Ok(values(alloc, &document, selector.as_str(), key.as_str())?)
+            let selector = parse(alloc, selector.as_str())?;
+            Ok(values(alloc, tree, &selector, key.as_str())?)
+        }
+        [word, selector] if word.as_str() == "elements" => {
+            let selector = parse(alloc, selector.as_str())?;
+            Ok(elements(alloc, tree, &selector)?)
         }
         [word, own] if word.as_str() == "links" => {
             let own = Url::parse(alloc, own.as_str())?;
-            links(alloc, &own, text(page)?)
+            Ok(links(alloc, &own, tree)?)
         }
-        [word] if word.as_str() == "titles" => titles(alloc, text(page)?),
-        [word] if word.as_str() == "text" => readable_text(alloc, text(page)?),
-        [word, fields @ ..] if word.as_str() == "fill" => {
-            let fields = fields_of(alloc, fields)?;
-            fill(alloc, fields.as_slice(), text(page)?)
-        }
+        [word] if word.as_str() == "titles" => titles(alloc, tree),
+        [word] if word.as_str() == "text" => Ok(readable_text(alloc, tree)?),
         _ => bail!(USAGE),
     }
 }

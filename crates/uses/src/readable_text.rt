@@ -1,20 +1,18 @@
-//! The text of a page as browsers read it.
-ghost use Rattle.std.specs.Prelude.{◌≡◌, IfOk, string_bytes};
-ghost use Rattle.uses.specs.ReadableText.{text_of};
+//! The text of a page.
+ghost use Rattle.std.specs.Prelude.{IfOk, [], ◌≡◌};
+ghost use Rattle.tl_tree.specs.TreeView.{rows_in};
+ghost use Rattle.tl_tree_extract.specs.Readable.{readable_rows};
 
-use anyhow::Result as AnyResult;
-use std::alloc::Global;
-use tl::{ParserOptions, parse};
-use tl_extract::{Spelling, readable};
-use tl_html::normalize;
+use std::alloc::{AllocError, Global};
+use tl_tree::Tree;
+use tl_tree_extract::text::write_readable_document;
 
-/// The text of a page as browsers read it, line by line: blocks stand on lines of their own, and
-/// scripts, styles and comments are left out.
-pub fn readable_text(alloc: Global, page: &str) -> AnyResult<String>
-    ensures { IfOk result (λ lines. string_bytes lines ≡ text_of page.now) }
+/// The text of a page, line by line: blocks stand on lines of their own, and scripts, styles and
+/// comments are left out.
+pub fn readable_text(alloc: Global, tree: &Tree<'_>) -> Result<Vec<u8>, AllocError>
+    ensures { IfOk result (λ text. text.items ≡ readable_rows [] (rows_in tree.now)) }
 {
-    let form = normalize(alloc, page)?;
-    let document = parse(alloc, form.as_str(), ParserOptions::new())?;
-    let lines = readable(alloc, &document)?;
-    Ok(Spelling::Decoded.written(alloc, lines)?)
+    let mut text = Vec::new(alloc);
+    write_readable_document(tree, &[], &mut text)?;
+    Ok(text)
 }

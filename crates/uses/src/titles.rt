@@ -1,66 +1,35 @@
-//! The titles of a page as browsers read it.
-ghost use Rattle.std.specs.Prelude.{◌≡◌, ◌++◌, IfOk, OnOk, map, string_bytes};
-ghost use Rattle.tl_spec.specs.Select.Selector.{Selector};
-ghost use Rattle.tl_spec.specs.Select.Text.{IsSelectorText};
-ghost use Rattle.tl.specs.View.{document_of};
-ghost use Rattle.tl_extract.specs.Readable.{spaced_byte};
-ghost use Rattle.tl_page.specs.Outcome.{Gives, success};
-ghost use Rattle.uses.specs.Titles.{title_line, title_selector, titles_in, titles_of};
+//! The titles of a page.
+ghost use Rattle.std.specs.Prelude.{IfOk, List, Ok, ℕ, ◌≡◌};
+ghost use Rattle.tl_css.specs.Reading.{css_at};
+ghost use Rattle.tl_css.specs.Selector.{Css};
+ghost use Rattle.tl_tree.specs.TreeView.{rows_in};
+ghost use Rattle.tl_tree_select.specs.Meaning.{AreFound};
+ghost use Rattle.tl_tree_select.specs.Page.{page_of};
+ghost use Rattle.uses.specs.Titles.{title_lines, title_selector};
 
 use anyhow::Result as AnyResult;
-use std::alloc::{AllocError, Global};
-use tl::{ParserOptions, VDom, parse};
-use tl_extract::{Field, lines_of, select};
-use tl_html::normalize;
-use tl_page::Failure;
+use std::alloc::Global;
+use tl_css::parse;
+use tl_tree::Tree;
+use tl_tree_extract::{Columns, Field, write_fields};
+use tl_tree_select::select;
 
-// The words of a title on one line.
-fn title_line(alloc: Global, title: &str) -> Result<String, AllocError>
-    ensures { IfOk result (λ line. string_bytes line ≡ title_line title.now) }
+/// The title of a page and its headings, in their order, each on a line, where a `\` is two.
+pub fn titles(alloc: Global, tree: &Tree<'_>) -> AnyResult<Vec<u8>>
+    ensures { IfOk result (λ lines. (e : Css) × (ns : List ℕ) × (css_at title_selector ≡ Ok e)
+        × AreFound (page_of tree.now) e ns
+        × (lines.items ≡ title_lines (rows_in tree.now) ns)) }
 {
-    let mut spaced = Vec::new(alloc);
-    for byte in title.as_bytes() {
-        spaced.push(if byte.is_ascii_whitespace() {
-            b' '
-        } else {
-            *byte
-        })?;
-    }
-    lines_of(alloc, spaced.as_slice())
-}
-
-// Adds the line of a title.
-fn add_title(alloc: Global, lines: &mut String, title: &str) -> Result<(), AllocError>
-    ensures { OnOk result (string_bytes lines.new
-        ≡ string_bytes lines.old ++ title_line title.now) }
-{
-    let line = title_line(alloc, title)?;
-    lines.push_str(line.as_str())
-}
-
-// The titles of a document, each on a line, where this is their selector.
-#[tactic(auto, using(tl_page::proofs::Outcomes::followed))]
-fn titles_in<'d>(
-    alloc: Global,
-    document: &'d VDom<'_>,
-    selector: &'d str,
-) -> Result<String, Failure>
-    ensures { (e : Selector) → IsSelectorText selector.now e →
-        Gives string_bytes (titles_in (document_of document.now) e) result }
-{
-    let mut lines = String::new(alloc);
-    for title in select(alloc, document, selector, Field::Characters)? {
-        add_title(alloc, &mut lines, title?.as_str())?;
-    }
+    let selector = parse(alloc, "title, h1, h2, h3, h4, h5, h6")?;
+    let numbers = select(alloc, tree, &selector)?;
+    let mut lines = Vec::new(alloc);
+    write_fields(
+        alloc,
+        tree,
+        &numbers,
+        &[Field::Text],
+        Columns::Tabs,
+        &mut lines,
+    )?;
     Ok(lines)
-}
-
-/// The title of a page and its headings, in their order, each on a line.
-pub fn titles(alloc: Global, page: &str) -> AnyResult<String>
-    ensures { (e : Selector) → IsSelectorText title_selector e →
-        IfOk result (λ lines. titles_of page.now e ≡ success (string_bytes lines)) }
-{
-    let form = normalize(alloc, page)?;
-    let document = parse(alloc, form.as_str(), ParserOptions::new())?;
-    Ok(titles_in(alloc, &document, "title, h1, h2, h3, h4, h5, h6")?)
 }

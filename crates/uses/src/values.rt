@@ -1,34 +1,32 @@
 //! The values of an attribute, line by line.
-ghost use Rattle.std.specs.Prelude.{string_bytes};
-ghost use Rattle.tl_spec.specs.Select.Selector.{Selector};
-ghost use Rattle.tl_spec.specs.Select.Text.{IsSelectorText};
-ghost use Rattle.tl.specs.View.{document_of};
-ghost use Rattle.tl_page.specs.Outcome.{Gives, refused};
-ghost use Rattle.tl_extract.specs.Field.{IsNoSelector};
+ghost use Rattle.std.specs.Prelude.{IfOk, List, ℕ, ◌≡◌};
+ghost use Rattle.tl_tree.specs.TreeView.{rows_in};
+ghost use Rattle.tl_tree_select.specs.Meaning.{AreFound};
+ghost use Rattle.tl_tree_select.specs.Page.{page_of};
 ghost use Rattle.uses.specs.Values.{value_lines};
 
-use std::alloc::Global;
-use tl::VDom;
-use tl_extract::{Field, select};
-use tl_page::Failure;
+use std::alloc::{AllocError, Global};
+use tl_css::Selector;
+use tl_tree::Tree;
+use tl_tree_select::select;
 
-/// The values at a key of the nodes where a selector holds, in the order of the text, one a line. A
-/// text that is no selector is refused.
-#[tactic(auto, using(tl_page::proofs::Outcomes::followed))]
+/// The values at a key of the elements of a page where a selector holds, in the order of the page,
+/// one a line.
 pub fn values(
     alloc: Global,
-    document: &VDom<'_>,
-    selector: &str,
+    tree: &Tree<'_>,
+    selector: &Selector,
     key: &str,
-) -> Result<String, Failure>
-    ensures values { (e : Selector) → IsSelectorText selector.now e →
-        Gives string_bytes (value_lines key.entry (document_of document.now) e) result }
-    ensures no_selector { IsNoSelector selector.now → Gives string_bytes refused result }
+) -> Result<Vec<u8>, AllocError>
+    ensures { IfOk result (λ lines. (ns : List ℕ) × AreFound (page_of tree.now) selector.now ns
+        × (lines.items ≡ value_lines key.now (rows_in tree.now) ns)) }
 {
-    let mut lines = String::new(alloc);
-    for value in select(alloc, document, selector, Field::Attribute(key))? {
-        lines.push_str(value?.as_str())?;
-        lines.push('\n')?;
+    let mut lines = Vec::new(alloc);
+    for number in select(alloc, tree, selector)?.iter() {
+        if let Some(value) = tree.value(*number, key.as_bytes()) {
+            lines.extend_from_slice(value)?;
+            lines.push(b'\n')?;
+        }
     }
     Ok(lines)
 }

@@ -1,8 +1,10 @@
-use Rattle.std.proofs.Common.{◌≡◌, map, string_bytes, take}
-use Rattle.tl.specs.View.{node_view}
-use Rattle.uses.specs.Links.{link_lines}
+use Rattle.std.proofs.Common.{flat_map, map, take, ◌≡◌}
+use Rattle.tl_tree_extract.specs.Links.{Link, link_said}
+use Rattle.uses.specs.Links.{link_line}
 use Rattle.uses.proofs.links.link_lines.Given as goal
 
--- the lines are those of the nodes so far
-abbrev pub invariant-loop-node : goal.invariant-loop-node
-invariant-loop-node l = string_bytes l.lines ≡ link_lines l.base (map node_view (take l.node-index l.node-items))
+-- the lines are those of the links so far
+abbrev pub invariant-loop-link : goal.invariant-loop-link
+invariant-loop-link l =
+    l.lines.items
+    ≡ flat_map (λ (link : Link). link_line l.base link.part.bytes) (map link_said (take l.link-index l.link-items))

@@ -1,8 +1,9 @@
-use Rattle.std.proofs.Common.{◌≡◌, string_bytes}
-use Rattle.tl_page.specs.Outcome.{followed_by, success}
-use Rattle.uses.specs.Values.{lines}
+use Rattle.std.proofs.Common.{flat_map, take, ◌≡◌}
+use Rattle.tl_tree.specs.TreeView.{rows_in}
+use Rattle.uses.specs.Values.{value_line}
 use Rattle.uses.proofs.values.values.Given as goal
 
--- what is written, and then the lines of the texts that are left, are all lines
-abbrev pub invariant-loop-value : goal.invariant-loop-value
-invariant-loop-value l = followed_by (success (string_bytes l.lines)) (lines l.value-iterator) ≡ lines l.initial.value-iterator
+-- the lines are those of the elements so far
+abbrev pub invariant-loop-number : goal.invariant-loop-number
+invariant-loop-number l =
+    l.lines.items ≡ flat_map (value_line l.key (rows_in l.tree)) (take l.number-index l.number-items)
