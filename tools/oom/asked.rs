@@ -121,7 +121,16 @@ fn written(alloc: Global, tree: &Tree<'_>, call: AskedCall) -> Result<Vec<u8>, S
         }
         AskedCall::NodeOutline => write_node_outline(alloc, tree, false, &mut out)?,
         AskedCall::Sheet => {
-            write_table(alloc, tree, 3, Columns::Commas, Spans::Filled, &mut out)?;
+            let limit = usize::MAX;
+            write_table(
+                alloc,
+                tree,
+                3,
+                Columns::Commas,
+                Spans::Filled,
+                limit,
+                &mut out,
+            )?;
         }
         AskedCall::Fields(number) => {
             write_fields(alloc, tree, &[number], &FIELDS, Columns::Commas, &mut out)?;

@@ -20,10 +20,10 @@ mod byte_strings;
 mod case;
 mod containers;
 mod documents;
-mod forms;
 mod guards;
 mod large;
 mod numbers;
+mod pages;
 mod patches;
 mod policies;
 mod program;
@@ -35,7 +35,6 @@ mod styles;
 mod tags;
 mod texts;
 mod tracking;
-mod tree_selectors;
 mod writes;
 
 use case::{Case, Point};
@@ -77,12 +76,11 @@ fn call(number: usize, case: &mut Case) -> Option<Named> {
         11 => styles::call(place, case),
         12 => patches::call(place, case),
         13 => tags::call(place, case),
-        14 => forms::call(place, case),
+        14 => pages::call(place, case),
         15 => writes::call(place, case),
         16 => questions::call(place, case),
         17 => policies::call(place, case),
         18 => asked::call(place, case),
-        19 => tree_selectors::call(place, case),
         _ => None,
     }
 }

@@ -7,9 +7,15 @@ use tl_patch_edit::{
     Content, ElementPatch, PlacedPatch, patch_each, patch_element, patch_elements,
 };
 use tl_patch_select::{Patched, edit_selected, patch_selected};
+use tl_tree::{Flags, Tree};
 
 // What is called, of this page.
 const PAGE: &str = "<p id=i>x</p><!-- y --><p class='k'>z";
+
+static FLAGS: Flags = Flags {
+    is_scripting: false,
+    counts_search: true,
+};
 
 const SET: Change<'static> = Change::Set {
     key: b"id",
@@ -132,7 +138,11 @@ fn are_changed(patched: &Patched, wanted: &str) -> Result<(), Stop> {
 
 fn patch_where(text: &str, change: Change<'_>, wanted: &str, case: &mut Case) -> Result<(), Stop> {
     let selector = tl_css::parse(case.alloc(), text)?;
-    let answer = measured!(case, patch_selected(case.alloc(), PAGE, &selector, change));
+    let tree = Tree::read(case.alloc(), PAGE.as_bytes(), FLAGS)?;
+    let answer = measured!(
+        case,
+        patch_selected(case.alloc(), PAGE.as_bytes(), &tree, &selector, change)
+    );
     are_changed(&answer?, wanted)
 }
 
@@ -143,6 +153,10 @@ fn edit_where(
     case: &mut Case,
 ) -> Result<(), Stop> {
     let selector = tl_css::parse(case.alloc(), text)?;
-    let answer = measured!(case, edit_selected(case.alloc(), PAGE, &selector, patch));
+    let tree = Tree::read(case.alloc(), PAGE.as_bytes(), FLAGS)?;
+    let answer = measured!(
+        case,
+        edit_selected(case.alloc(), PAGE.as_bytes(), &tree, &selector, patch)
+    );
     are_changed(&answer?, wanted)
 }

@@ -3,14 +3,13 @@ use std::alloc::{AllocError, AllocFailed};
 use tl::ParseError;
 use tl::errors::{SetBytesError, TreeError};
 use tl_css::SelectorError;
-use tl_css_select::forest::SelectError;
 use tl_encoding::DecodeError;
-use tl_html::NormalizeError;
 use tl_page::Failure;
 use tl_patch::PatchError;
 use tl_patch_edit::EditError;
 use tl_patch_select::{SelectionEditError, SelectionPatchError};
 use tl_tree::ReadError;
+use tl_tree_extract::TableError;
 
 /// Why a case ended.
 #[derive(Clone, Copy)]
@@ -102,15 +101,6 @@ impl From<SelectorError> for Stop {
     }
 }
 
-impl From<SelectError> for Stop {
-    fn from(error: SelectError) -> Self {
-        match error {
-            SelectError::OutOfMemory => Stop::NoMemory,
-            SelectError::NotForest | SelectError::TooLong => Stop::WrongError,
-        }
-    }
-}
-
 impl From<PatchError> for Stop {
     fn from(error: PatchError) -> Self {
         match error {
@@ -147,15 +137,6 @@ impl From<SelectionEditError> for Stop {
     }
 }
 
-impl From<NormalizeError> for Stop {
-    fn from(error: NormalizeError) -> Self {
-        match error {
-            NormalizeError::OutOfMemory => Stop::NoMemory,
-            NormalizeError::TooLong => Stop::WrongError,
-        }
-    }
-}
-
 impl From<ReadError> for Stop {
     fn from(error: ReadError) -> Self {
         match error {
@@ -179,6 +160,15 @@ impl From<Failure> for Stop {
         match failure {
             Failure::OutOfMemory => Stop::NoMemory,
             _ => Stop::WrongError,
+        }
+    }
+}
+
+impl From<TableError> for Stop {
+    fn from(error: TableError) -> Self {
+        match error {
+            TableError::OutOfMemory => Stop::NoMemory,
+            TableError::TooLong => Stop::WrongError,
         }
     }
 }

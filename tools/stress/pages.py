@@ -38,8 +38,8 @@ NUMBERED = (
     ("", "<a%>", ""), ("", "<a%></a%>", ""), ("<p ", "a% ", ">"), ("<p ", "a%=b ", ">"), ("<p ", "a%='b'", ">"),
     ("<p class='", "k% ", "'>"), ("", "<p class=k%>", ""), ("", "<br id=i%>", ""),
 )
-# The same of pages whose forms are written.
-FORMED = (
+# What stands in front of a page that is read into its tree, what is repeated after it, and what comes at the end.
+FRAMED_IN_TREES = (
     ("", "&", ""), ("", "&a", ""), ("", "&nz", ""), ("", "&Nou", ""), ("", "&#x", ""), ("<a b='", "&amp;", ""),
     ("", "<", ""), ("", "<a b=\"", ""), ("", "<a b='", ""), ("<a b=\"", "x", ""), ("", "<li>", ""), ("", "<ul><li>", ""),
     ("", "<p>", ""), ("", "</p>", ""), ("", "<b>", ""), ("", "<svg>", ""), ("<svg>", "<a/>", ""), ("", "<table>", ""),
@@ -137,9 +137,12 @@ def pages():
     yield "open tags by numbers, then end tags from the last on", close
 
 
-def forms():
-    """The same of pages whose forms are written."""
-    for front, it, end in FORMED:
+def trees():
+    """The same of pages that are read into trees."""
+    for parts in TREED:
+        yield ", ".join(shorten(it) + " again and again" * (at % 2) for at, it in enumerate(parts) if it), by_turns(parts)
+    yield "attributes of formatting elements in both orders", both_orders
+    for front, it, end in FRAMED_IN_TREES:
         yield f"{show(front)}, {show(it)} again and again, {show(end)}", frame(front, it, end)
     yield "attributes by numbers in one tag", number_between("<p ", "a% ", ">")
     yield "values by numbers in one tag", number_between("<p ", "A%='&amp;'", ">")
@@ -148,14 +151,6 @@ def forms():
     yield "open svg, then paragraphs", halves("<svg>", "<p>")
     yield "open tags, then ends of paragraphs", halves("<b>", "</p>")
     yield "open tags by numbers, then end tags from the first on", cross
-
-
-def trees():
-    """The same of pages that are read into trees, and of those whose forms are written."""
-    for parts in TREED:
-        yield ", ".join(shorten(it) + " again and again" * (at % 2) for at, it in enumerate(parts) if it), by_turns(parts)
-    yield "attributes of formatting elements in both orders", both_orders
-    yield from forms()
 
 
 def searches():
