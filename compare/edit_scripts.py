@@ -6,7 +6,7 @@ from itertools import product
 
 from . import chromium
 from .edit_model import UNSURE
-from .html_form import RAW
+from .end_tags import RAW
 
 BATCH = 200
 # Stands for what a script calls.

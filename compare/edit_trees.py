@@ -1,7 +1,12 @@
-"""What html5lib builds of pages in folders that `tl` edited, beside what it builds of the pages, with the same done in the tree."""
+"""What html5lib builds of pages in folders that `tl` edited, beside what it builds of the pages, with the same done in the tree. What is
+refused has to be by the model too."""
 import os
+import re
 import subprocess
 import warnings
+
+from .edit_model import refusal
+from .edit_page import Page
 
 # Names of the elements that are edited.
 NAMES = ("a", "p", "li", "img", "td", "code")
@@ -92,6 +97,12 @@ def done(text, word, name):
     return rows(root)
 
 
+def wanted_refusal(text, word, name):
+    """What is said of a page of which all elements of a name are edited; None where that is done."""
+    page = Page(text)
+    return refusal(page, [row for row in page.found_rows() if row.node.kind == "element" and row.node.name == name], word, ())
+
+
 def compared_trees(program, folders, words, limit, room, tally):
     """Compares the trees of pages in folders. How many differ."""
     differ, file = 0, f"{room}/page.html"
@@ -107,10 +118,10 @@ def compared_trees(program, folders, words, limit, room, tally):
             with open(file, "rb") as page:
                 written = page.read().decode()
             tally[f"{word} in folders: something is found"] += run.returncode == 0
-            if b"no start tag" in run.stderr:
-                tally[f"{word} in folders: refused: no start tag"] += 1
-                continue
-            if run.returncode not in (0, 1) or rows(tree(written)) != done(text, word, name):
+            why, wanted = run.stderr.decode().removeprefix(f"tl: {file}: ").rstrip("\n"), wanted_refusal(text, word, name)
+            if wanted and re.fullmatch(wanted, why):
+                tally[f"{word} in folders: refused: " + re.sub(r"\d+", "N", why)] += 1
+            elif wanted or run.returncode not in (0, 1) or rows(tree(written)) != done(text, word, name):
                 differ += 1
-                print(f"differs: {word} {name} of {source}: {run.stderr.decode()[:300]}", flush=True)
+                print(f"differs: {word} {name} of {source}: {why[:300]}, wanted: {wanted}", flush=True)
     return differ

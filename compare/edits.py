@@ -1,18 +1,18 @@
 """Compares what the words of `tl` that edit a page in its own bytes make of made-up pages, most of them broken, with a plain reader.
 
-    ./x compare edits [--program FILE] [--edits N] [--seed N] [--words set,remove] [--chromium] [FOLDER ..]
+    ./x compare edits [--program FILE] [--edits N] [--seed N] [--words set,remove] [--chromium [--doms N]] [FOLDER ..]
 
-Of each page the plain reader (edit_model.py) says which tags a selector finds, where they and their elements stand, and what comes of
-the page. Each byte outside of these places has to be as it was; html5lib's tokenizer has to read the tokens that are asked for, where
-it reads the page itself as the plain reader does. What is refused is counted by what is said; of keys that are set or unset the plain
-reader knows it: a tag is found that no start tag begins (`</p>` alone); and of texts that are put into a `style` behind an `svg` and its
-like, and elements that get such a name before a `style`.
+Of each page the plain reader (edit_page.py) says by the tree of the standard which elements a selector finds, where their tags stand and
+how far they go; and the model of patches (edit_model.py) what comes of the page, or why it is refused: what is said then has to be that,
+but for the place where patches cut across each other or what is put can't stand. Each byte outside of these places has to be as it was;
+html5lib's tokenizer has to read the tokens that are asked for, where it reads the page itself as the plain reader does.
 
 With folders the pages in them are edited too, and html5lib's trees compared: with a key set or unset at all tags of a name, or with
 such elements gone, it has to be the tree of the page with just that done.
 
 With --chromium texts that hold a script are put into each place of pages of each kind, and elements renamed around such texts: none may
-run in Chromium that didn't before (edit_scripts.py).
+run in Chromium that didn't before (edit_scripts.py). And of N made-up pages of which one element is edited what Chromium builds is
+compared with the same operation of the DOM (edit_doms.py): how often the trees are the same, and why others aren't, is counted by kind.
 
 The program is the `tl` that the gate built unless another is named. Ends with 1 where something differs. Of a Debian: apt-get install
 python3-html5lib, and chromium for --chromium.
@@ -26,22 +26,27 @@ from collections import Counter
 
 from tools.programs import gate_build
 
-from . import html_program, markup, misnested
+from . import markup, misnested, soup
 from .css import definition
-from .edit_model import NotMeant, Page, Unknown, asked_of, changed, misread, spliced
+from .edit_doms import KEY, compared_doms, numbered
+from .edit_model import TAG_WORDS, asked_of, changed, form_of, joined, refusal, spliced
+from .edit_page import Page
 from .edit_scripts import FRONTS, compared_scripts
 from .edit_trees import compared_trees
-from .html_form import RAW
+from .end_tags import RAW
 from .html_tokenizer import lower
+from .tree_definition import with_room
 
 # So many pages a run of the program.
 BATCH = 200
 WORDS = ("set", "unset", "remove", "replace", "fill", "prepend", "append", "before", "after", "unwrap", "rename")
 SELECTORS = (
-    ["*", "*", "*", "body *", "a", "p", "li", "b", "td", "svg *", "div > *", "p + *", "[title]", "[class]", ":first-child", ":empty", "p, a"]
+    ["*", "body *", "body *", "body *", "a", "p", "li", "b", "td", "svg *", "div > *", "p + *", "[title]", "[class]", ":first-child", ":empty", "p, a"]
     + [":not(:root)", "table td", "x-y", "option", "br", "a[href]", "[id=x]", ".k", "#x", "li:nth-child(2n)", "title", "script", "z"]
     + ["body", "html", "body > :last-child", "style", "script, style, xmp", "iframe, noframes", "div, b"]
 )
+# Each finds the start tags of a number.
+NUMBERS = [f'[{KEY}="{number}"]' for number in range(7)]
 KEYS = ["title", "class", "ID", "href", "onclick", "data-x", "a:b", "é", "x", "y"]
 VALUES = ["", "v", "a b", '"', "'", "&", "&amp;", "&copy", "<i>", "a>b", "\n", "é", "=", "`", "/", "&#10;", "&notit;"]
 NAMES = ["div", "b", "x-y", "h1", "li", "td", "br", "title", "svg", "noscript", "select", "template"]
@@ -82,7 +87,7 @@ def is_read_so(page, written, tokens):
     """Whether html5lib reads these tokens, where it reads the page as the plain reader does. Its tokenizer alone knows no raw texts."""
     if any(it[0] == "start" and it[1] in RAW for it in [*page.tokens, *tokens]):
         return True
-    return html5lib_tokens(page.text) != page.tokens or html5lib_tokens(written) == tokens
+    return html5lib_tokens(page.text) != joined(page.tokens) or html5lib_tokens(written) == joined(tokens)
 
 
 def raw_page(chance):
@@ -95,14 +100,14 @@ def raw_page(chance):
 def made_page(chance):
     """A page: tags in any order with odd pairs, and texts between them that are cut anywhere."""
     if chance.random() < 0.2:
-        return html_program.tag_soup(chance)
+        return soup.tag_soup(chance)
     if chance.random() < 0.15:
         return raw_page(chance)
     if chance.random() < 0.2:
         return misnested.misnested(chance, misnested.POLICIES["all"].split())
     out = ["\ufeff"] if chance.random() < 0.03 else []
     for _ in range(chance.randrange(1, 14)):
-        kind, name = chance.random(), chance.choice(html_program.TAGS)
+        kind, name = chance.random(), chance.choice(soup.TAGS)
         if kind < 0.5:
             out.append(f"<{name.upper() if chance.random() < 0.2 else name}{chance.choice(PAIRS)}{chance.choice(PAIRS)}>")
         elif kind < 0.7:
@@ -119,8 +124,9 @@ class Edit:
     """Words for the program, and what they mean."""
 
     def __init__(self, chance, words):
-        self.word, self.selector = chance.choice(words), chance.choice(SELECTORS)
-        self.is_tag = self.word in ("set", "unset")
+        self.word, self.is_numbered = chance.choice(words), chance.random() < 0.4
+        self.selector = chance.choice(NUMBERS if self.is_numbered else SELECTORS)
+        self.is_tag = self.word in TAG_WORDS
         self.key, self.value = chance.choice(KEYS), chance.choice(VALUES) if self.word != "unset" else None
         is_markup = chance.random() < 0.4
         self.content = ("markup", chance.choice(MARKUP)) if is_markup else ("text", chance.choice(VALUES))
@@ -129,43 +135,15 @@ class Edit:
         self.read = definition.parse(self.selector)
 
     def words(self):
-        options = ["--html"] if self.content[0] == "markup" and self.word not in ("set", "unset", "remove", "unwrap") else []
+        options = ["--html"] if self.content[0] == "markup" and self.word not in (*TAG_WORDS, "remove", "unwrap") else []
         if self.is_tag:
             given = [self.key] if self.value is None else [self.key, self.value]
         else:
             given = [] if self.word in ("remove", "unwrap") else [self.content[1]]
         return [self.word, "-i", *options, "--", self.selector, *given]
 
-    def misread_lines(self, page, found):
-        """What is said where a browser may read as markup what is asked for: an expression for it; None where it is done."""
-        if self.is_tag or not all(page.tokens[it][0] == "start" for it in found):
-            return None
-        try:
-            asked_of(page, found, self.word, self.content)
-            it = misread(page, found, self.word, self.content)
-        except (NotMeant, Unknown):
-            return None
-        if it is None:
-            return None
-        at, cause = (page.text.count("\n", 0, page.places[token][0]) + 1 for token in it)
-        if self.word == "rename":
-            return f"by that name for the element at line {at} a browser may read .*"
-        return f"a browser may read the text as markup in the element at line {at}, as {page.tokens[it[1]][1]} begins before it, at line {cause}: .*"
-
-    def is_refused(self, page, found, why):
-        """Whether that may be said of a page. That it would be read otherwise, and which content a raw text can't hold isn't looked
-        at."""
-        if not all(page.tokens[it][0] == "start" for it in found):
-            return "no start tag" in why
-        try:
-            asked = [] if self.is_tag else asked_of(page, found, self.word, self.content)
-        except NotMeant:
-            return "can't be changed so" in why
-        except Unknown:
-            return True
-        if "can't stand there" in why:
-            return any(page.raw_name(sum(begin)) for begin, _, _ in asked)
-        return bool(asked) and "would be read otherwise" in why
+    def refusal(self, page, rows):
+        return refusal(page, rows, self.word, self.content)
 
     def is_done(self, page, written, found):
         """Whether that was written of a page which has to be."""
@@ -177,17 +155,15 @@ class Edit:
         if new.tokens != should:
             return False
         form, at = [], 0
-        for token in sorted(found):
-            begin, end = page.places[token]
-            new_begin, new_end = new.places[token]
-            form.append(re.escape(page.text[at:begin] + written[new_begin:new_end]))
-            at = end
+        for token in found:
+            form.append(re.escape(page.text[at : page.begins[token]] + new.bytes_of(token)))
+            at = page.begins[token + 1]
         form.append(re.escape(page.text[at:]))
         return re.fullmatch("".join(form), written, re.DOTALL) is not None and is_read_so(page, written, should)
 
     def has_splices(self, page, written, found):
-        should, form = spliced(page, asked_of(page, found, self.word, self.content))
-        if Page(written).tokens != should or not form.fullmatch(written):
+        should, parts = spliced(page, asked_of(page, found, self.word, self.content))
+        if joined(Page.tokens_in(written)) != should or not form_of(parts).fullmatch(written):
             return False
         return is_read_so(page, written, should)
 
@@ -210,26 +186,14 @@ def asked(program, words, room, pages):
 def judged(edit, text, written, why, tally):
     """What is wrong with what was made of a page, or None."""
     page = Page(text)
-    found = page.found(edit.read)
-    is_tagged = all(page.tokens[it][0] == "start" for it in found)
+    rows = page.found(edit.read)
     tally["edits"] += 1
-    tally["edits of what is found"] += bool(found)
-    wanted = edit.misread_lines(page, found)
-    if wanted is not None:
-        tally[f"{edit.word}: that a browser may read as markup"] += 1
-        return None if written == text and re.fullmatch(wanted, why or "") else f"not refused by {wanted}: {why}"
-    if why:
-        tally[f"{edit.word}: refused: " + re.sub(r"\d+", "N", why)] += 1
-        return None if written == text and edit.is_refused(page, found, why) else f"refused: {why}"
-    if not is_tagged:
-        return "not refused"
-    try:
-        return None if edit.is_done(page, written, found) else "something else is written"
-    except Unknown:
-        tally["edits that the plain reader doesn't know"] += 1
-        return None
-    except NotMeant:
-        return "not refused"
+    tally["edits of what is found"] += bool(rows)
+    wanted = edit.refusal(page, rows)
+    if why or wanted:
+        tally[f"{edit.word}: refused: " + re.sub(r"\d+", "N", why or "")] += 1
+        return None if written == text and why and wanted and re.fullmatch(wanted, why) else f"refused by {why}, and should be by {wanted}"
+    return None if edit.is_done(page, written, page.tags_of(rows)) else "something else is written"
 
 
 def compared(program, edit, pages, room, tally):
@@ -250,17 +214,25 @@ def main(parser, words):
     parser.add_argument("--edits", type=int, default=10000, metavar="N")
     parser.add_argument("--words", default=",".join(WORDS))
     parser.add_argument("--chromium", action="store_true")
+    parser.add_argument("--doms", type=int, default=5000, metavar="N", help="so many edits beside the DOM of Chromium")
     parser.add_argument("--limit", type=int, default=200, metavar="N", help="so many pages of folders at most")
     parser.add_argument("--seed", type=int, default=1, metavar="N")
     given = parser.parse_args(words)
-    program = os.path.abspath(given.program or gate_build("tl"))
+    return with_room(lambda: all_compared(os.path.abspath(given.program or gate_build("tl")), given))
+
+
+def all_compared(program, given):
+    """Compares all that is asked for. 1 where something differs."""
     chance, tally, differ = random.Random(given.seed), Counter(), 0
     with tempfile.TemporaryDirectory() as room:
         while tally["edits"] < given.edits:
+            edit = Edit(chance, given.words.split(","))
             pages = [made_page(chance) for _ in range(BATCH)]
-            differ += compared(program, Edit(chance, given.words.split(",")), pages, room, tally)
+            pages = [numbered(it)[0] for it in pages] if edit.is_numbered else pages
+            differ += compared(program, edit, pages, room, tally)
         if given.chromium:
             differ += compared_scripts(program, room, tally)
+            compared_doms(program, room, made_page, asked, given.doms, given.seed, tally)
         differ += compared_trees(program, given.folders, given.words.split(","), given.limit, room, tally)
     for what, count in sorted(tally.items()):
         print(f"{count} {what}")

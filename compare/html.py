@@ -1,8 +1,6 @@
 """Compares html_tokenizer.py, a method for each state of the HTML standard's tokenizer, with the tokenizer of html5lib.
 
     ./x compare html [--runs N] [--seed N] [--page FILE..]
-    ./x compare html --form [--runs N] [--seed N] [--page FILE..] [--program FILE]
-    ./x compare html --form --trees FOLDER [--show N] [--program FILE]
     ./x compare html --trees FOLDER [--runs N] [--seed N]
     ./x compare html --code [--chromium] [--trees FOLDER] [--runs N] [--seed N] [--page FILE..] [--program FILE]
     ./x compare html --prints [--chromium] [--runs N] [--seed N] [--program FILE]
@@ -19,15 +17,10 @@ The inputs come of the seed: pieces of markup that are hard to read, side by sid
 pieces put in. What differs is said. Where it is a known fault of html5lib (`FAULTS`), that is said too and doesn't count.
 Before, the tables of `crates/tl_names` are compared with the names of references that Python has, as ./x text does.
 
-Who changes a definition of `crates/tl_html_spec` changes html_tokenizer.py too. With --row it writes what it reads of a text, and the text's form, in the words of the worked rows of `crates/tl_html_spec`.
+Who changes a definition of `crates/tl_html_spec` changes html_tokenizer.py too. With --row it writes what it reads of a text, in the words of the worked rows of `crates/tl_html_spec`.
 
-With --form the forms that the program of tools/forms writes of such inputs, of tags in any order, and of the pages of `./x stress`
-cut at every character, are compared with those of html_form.py. With --form and --trees what is read of the forms of the
-standard's own tests of tree construction is compared with the trees that they expect (html_trees.py): it says how many are the
-same, and of which kind the others are, --show N with N of each. The program is built unproved, unless --program names one.
-
-With --trees alone the definition of tree construction, the text of `crates/tl_dom_spec` run by Python (definition.py), and a model
-that was written from the standard alone (tree_model.py) are compared with the trees of these tests, pages and fragments, and with
+With --trees the definition of tree construction, the text of `crates/tl_dom_spec` run by Python (definition.py), and a model
+that was written from the standard alone (tree_model.py) are compared with the trees of the standard's own tests in the folder, and with
 one another on made-up ones. Tests that are older than a rule are named with it. With --chromium both are compared with Chromium on
 made-up pages. With --code the trees of `crates/tl_tree` are compared with the model on made-up pages and fragments and on files, and with the tests
 in the folder, or with --chromium with Chromium on made-up pages: those that the program of tools/trees writes, built unproved, unless
@@ -40,7 +33,7 @@ steps, and with Chromium, as are the first tables of pages in folders; with --li
 computed in the same way, and for each clause of its definitions rows are named, --show N of them (3), that would be others without
 it; NO ROW stands where none would. With --tree it writes the trees of a text as these rows have them.
 
-Status: 0 where nothing differs, but for --form --trees, where much does; 1 where something does, 2 for words that aren't understood, 3 where html5lib isn't installed
+Status: 0 where nothing differs, 1 where something does, 2 for words that aren't understood, 3 where html5lib isn't installed
 (Debian: python3-html5lib).
 """
 import collections
@@ -51,8 +44,7 @@ import warnings
 
 from tools import references
 
-from . import html_program, html_trees, tree_rows
-from .html_form import balanced, html_form
+from . import tree_rows
 from .html_tokenizer import html_tokens
 from .tree_definition import TreeDefinition, with_room
 
@@ -179,7 +171,6 @@ def main(parser, words):
     parser.add_argument("--seed", type=int, default=1, metavar="N")
     parser.add_argument("--page", nargs="+", default=[], metavar="FILE")
     parser.add_argument("--row", metavar="TEXT")
-    parser.add_argument("--form", action="store_true")
     parser.add_argument("--trees", metavar="FOLDER")
     parser.add_argument("--code", action="store_true")
     parser.add_argument("--select", action="store_true")
@@ -197,19 +188,13 @@ def main(parser, words):
     parser.add_argument("--program", metavar="FILE")
     words = parser.parse_args(words)
     if words.row is not None:
-        print(f"tokens:   {listed(html_tokens(words.row))}")
-        print(f"balanced: {listed(balanced(html_tokens(words.row)))}")
-        print(f"form:     {quoted(html_form(words.row))}")
+        print(listed(html_tokens(words.row)))
         return 0
     if words.tree is not None:
         print(with_room(lambda: TreeDefinition().shown(words.tree, words.inside, words.scripting)))
         return 0
     if words.clauses:
         return tree_rows.compared(words)
-    if words.trees is not None and words.form:
-        return html_trees.compared(words)
-    if words.form:
-        return 1 if html_program.compared(words, made, pages_of(words.page)) else 0
     try:
         from html5lib._tokenizer import HTMLTokenizer
         from html5lib.constants import tokenTypes

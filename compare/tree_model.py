@@ -79,11 +79,22 @@ TRANSITIONAL = ("-//w3c//dtd html 4.01 frameset//", "-//w3c//dtd html 4.01 trans
 QUIRKY_SYSTEM = "http://www.ibm.com/data/dtd/v11/ibmxhtml1-transitional.dtd"
 
 
-class Node:
-    """An element, a text, a comment, a doctype, or the document."""
+class Pairs(dict):
+    """The attributes of an element, with where the start tag begins that they come from, if one does."""
 
-    def __init__(self, kind, name="", space=HTML, attributes=(), data=None):
-        self.kind, self.name, self.space, self.attributes, self.data = kind, name, space, dict(attributes), data
+    def __init__(self, pairs=(), place=None):
+        super().__init__(pairs)
+        self.place = getattr(pairs, "place", place)
+
+
+class Node:
+    """An element, a text, a comment, a doctype, or the document. Its place is where its token begins: of a text, the end of the tag, comment
+    or doctype before its first characters. `places` has that of all its characters."""
+
+    def __init__(self, kind, name="", space=HTML, attributes=(), data=None, place=None):
+        self.kind, self.name, self.space, self.attributes, self.data = kind, name, space, Pairs(attributes), data
+        self.place = self.attributes.place if kind == "element" else place
+        self.places = {place}
         self.parent, self.children = None, []
 
     key = property(lambda self: (self.space, self.name))
@@ -96,6 +107,10 @@ class Node:
             return self.attributes.get("encoding", "").lower() in ("text/html", "application/xhtml+xml")
         return self.space == SVG and self.key in FOREIGN_MARKS
 
+    def add_keys(self, pairs):
+        for key, value in pairs.items():
+            self.attributes.setdefault(key, value)
+
     def remove(self):
         if self.parent:
             self.parent.children.remove(self)
@@ -107,17 +122,18 @@ class Node:
         at = len(self.children) if before is None else next(at for at, it in enumerate(self.children) if it is before)
         self.children.insert(at, node)
 
-    def insert_text(self, text, before=None):
+    def insert_text(self, text, before=None, place=None):
         at = len(self.children) if before is None else next(at for at, it in enumerate(self.children) if it is before)
         if at and self.children[at - 1].kind == "text":
             self.children[at - 1].data += text
+            self.children[at - 1].places.add(place)
         else:
-            self.insert(Node("text", data=text), before)
+            self.insert(Node("text", data=text, place=place), before)
 
 
 class Token:
-    def __init__(self, kind, name=None, attributes=None, closes=False, data=None):
-        self.kind, self.name, self.attributes, self.closes, self.data = kind, name, attributes, closes, data
+    def __init__(self, kind, name=None, attributes=None, closes=False, data=None, place=None):
+        self.kind, self.name, self.attributes, self.closes, self.data, self.place = kind, name, attributes, closes, data, place
 
     def kinds(self):
         if self.kind != "character":
@@ -155,8 +171,12 @@ def ignored(builder, token):
     pass
 
 
+def comment_node(token):
+    return Node("comment", data=token.data, place=token.place)
+
+
 def comment(builder, token):
-    builder.insert_comment(token.data)
+    builder.insert_comment(token)
 
 
 def character(builder, token):
@@ -183,7 +203,23 @@ class Parser:
 
 
 class Tokenizer(HTMLTokenizer):
-    """The tokenizer of html5lib, as the standard has it where html5lib reads a NUL otherwise."""
+    """The tokenizer of html5lib, as the standard has it where html5lib reads a NUL otherwise. It knows where a token begins and ends in its
+    text, with line feeds at the ends of lines."""
+
+    def __init__(self, text, **options):
+        text = text.replace("\r\n", "\n").replace("\r", "\n")
+        super().__init__(text, **options)
+        self.length, self.begins = len(text), 0
+        # The text is one chunk, so what is left of it tells the place.
+        self.stream._defaultChunkSize = len(text) + 1
+
+    def place(self):
+        return self.length - (self.stream.chunkSize - self.stream.chunkOffset)
+
+    def tagOpenState(self):
+        """Behind a `<` in data, where every start tag, comment and doctype begins."""
+        self.begins = self.place() - 1
+        return super().tagOpenState()
 
     def commentStartState(self):
         return self.past_nul(super().commentStartState)
@@ -220,6 +256,8 @@ class Builder:
         self.head = self.form = self.context = None
         self.is_scripting, self.is_frameset_ok, self.is_fostering, self.is_quirks = is_scripting, True, False, False
         self.skips_feed = self.is_stopped = False
+        # Where the last token ends that was no character.
+        self.place = 0
         self.tokenizer = Tokenizer(text, parser=Parser(self))
         if context:
             self.begin_fragment(context)
@@ -251,18 +289,24 @@ class Builder:
                 for it in data:
                     self.take(Token("character", data=it))
             elif kind in (kinds["StartTag"], kinds["EmptyTag"]):
-                pairs = {}
+                pairs = Pairs(place=self.tokenizer.begins)
                 for key, value in data.items() if hasattr(data, "items") else data:
                     pairs.setdefault(key, value)
-                self.take(Token("start", token["name"], pairs, token.get("selfClosing", False)))
+                self.take_mark(Token("start", token["name"], pairs, token.get("selfClosing", False)))
             elif kind == kinds["EndTag"]:
-                self.take(Token("end", token["name"]))
+                self.take_mark(Token("end", token["name"]))
             elif kind == kinds["Comment"]:
-                self.take(Token("comment", data=data))
+                self.take_mark(Token("comment", data=data, place=self.tokenizer.begins))
             elif kind == kinds["Doctype"]:
-                self.take(Token("doctype", data=(token["name"], token["publicId"], token["systemId"], token["correct"])))
+                said = (token["name"], token["publicId"], token["systemId"], token["correct"])
+                self.take_mark(Token("doctype", data=said, place=self.tokenizer.begins))
         self.take(Token("end of file"))
         return self.open[0].children if self.context else self.document.children
+
+    def take_mark(self, token):
+        """Takes a token that is no character."""
+        self.take(token)
+        self.place = self.tokenizer.place()
 
     def take(self, token):
         if self.skips_feed and not self.is_stopped:
@@ -366,6 +410,7 @@ class Builder:
     def insert_foreign_element(self, token, space):
         keys = {MATH: {"definitionurl": "definitionURL"}, SVG: SVG_KEYS}[space]
         pairs = {FOREIGN_KEYS.get(key, keys.get(key, key)): value for key, value in token.attributes.items()}
+        pairs = Pairs(pairs, token.attributes.place)
         self.insert_element(SVG_NAMES.get(token.name, token.name) if space == SVG else token.name, pairs, space)
         if token.closes:
             self.open.pop()
@@ -373,11 +418,11 @@ class Builder:
     def insert_character(self, text):
         parent, before = self.appropriate_place()
         if parent.kind != "document":
-            parent.insert_text(text, before)
+            parent.insert_text(text, before, self.place)
 
-    def insert_comment(self, data):
+    def insert_comment(self, token):
         parent, before = self.appropriate_place() if self.open else (self.document, None)
-        parent.insert(Node("comment", data=data), before)
+        parent.insert(comment_node(token), before)
 
     def parse_raw_text(self, token, state):
         self.insert_element(token.name, token.attributes)
@@ -546,13 +591,13 @@ for _mode in (AFTER_AFTER_BODY, AFTER_AFTER_FRAMESET):
 @AFTER_AFTER_BODY.on("comment")
 @AFTER_AFTER_FRAMESET.on("comment")
 def comment_in_the_document(b, token):
-    b.document.insert(Node("comment", data=token.data))
+    b.document.insert(comment_node(token))
 
 
 @INITIAL.on("doctype")
 def first_doctype(b, token):
     name, public, system, is_correct = token.data
-    b.document.insert(Node("doctype", name or "", data=(public, system)))
+    b.document.insert(Node("doctype", name or "", data=(public, system), place=token.place))
     lower = (public or "").lower()
     b.is_quirks = (
         not is_correct
@@ -762,14 +807,14 @@ def white_space_in_body(b, token):
 @IN_BODY.on("start", "html")
 def html_again(b, token):
     if not b.has_template():
-        b.open[0].attributes = {**b.open[0].attributes, **token.attributes, **b.open[0].attributes}
+        b.open[0].add_keys(token.attributes)
 
 
 @IN_BODY.on("start", "body")
 def body_again(b, token):
     if len(b.open) > 1 and b.open[1].is_html("body") and not b.has_template():
         b.is_frameset_ok = False
-        b.open[1].attributes = {**b.open[1].attributes, **token.attributes, **b.open[1].attributes}
+        b.open[1].add_keys(token.attributes)
 
 
 @IN_BODY.on("start", "frameset")
@@ -1375,7 +1420,7 @@ IN_TEMPLATE.on("end", "template")(template_end)
 
 @AFTER_BODY.on("comment")
 def comment_in_html(b, token):
-    b.open[0].insert(Node("comment", data=token.data))
+    b.open[0].insert(comment_node(token))
 
 
 @AFTER_BODY.on("end", "html")

@@ -4,13 +4,13 @@ Both are compared with the standard's own tests, which Debian has in golang-gola
 fragments, and, where that is asked for, with Chromium on made-up pages. Tests that don't say whether scripting is on have one tree,
 and are read both ways.
 """
+import collections
 import glob
 import os
 import random
 
 from . import tree_model
 from .chromium import all_answers, chromium, version
-from .html_trees import cases
 from .tree_definition import TreeDefinition, with_room
 
 # Tests that are older than a rule, by the rule, and by their place in a file.
@@ -32,8 +32,28 @@ KEYS = ["", "", "", " id=x", " class=a", "/", " type=hidden", " color=r", " enco
 BETWEEN = ["x", " ", "y z", "\n", "&amp;", "<!--c-->", "<![CDATA[q>r]]>", "<!doctype html>", "</>", "<!x>"]
 DOCTYPES = ["<!doctype html>", "", '<!DOCTYPE html PUBLIC "-//W3C//DTD HTML 3.2//EN">']
 
+# The parts of a test.
+SECTIONS = ("errors", "new-errors", "document", "document-fragment", "script-on", "script-off")
+
 # Pages in one run of the browser.
 BATCH = 2000
+
+
+def cases(file):
+    """The tests of a file, each as its lines by section."""
+    found, section = [], None
+    with open(file, encoding="utf-8", newline="\n") as it:
+        lines = it.read().split("\n")
+    for line in lines:
+        if line == "#data":
+            found.append(collections.defaultdict(list))
+            section = "data"
+        elif found and line.startswith("#") and line[1:] in SECTIONS:
+            section = line[1:]
+            found[-1][section] = []
+        elif found:
+            found[-1][section].append(line)
+    return found
 
 
 def made(chance):

@@ -1,9 +1,9 @@
-"""Tokens of HTML with the end tags that are left out, and the page that is written of them for the grammar of `tl`.
+"""The rules of end tags by which edits tell how far elements go: which end tags the tokens of a page leave out.
 
-The rules are those of 13.2.6.4.7 ('in body') and of tables, as one mode over the names of the open tags; what they leave out
-is said in crates/tl_html_spec. A character is a token of its own here, as ("text", character).
+The rules are those of 13.2.6.4.7 ('in body') and of tables, as one mode over the names of the open tags, and no tree: formatting elements
+are not opened again, and nothing is moved. A character is a token of its own here, as ("text", character).
 """
-from .html_tokenizer import RAWTEXT, RCDATA, WHITE_SPACE, html_tokens
+from .html_tokenizer import RAWTEXT, RCDATA, WHITE_SPACE
 
 VOID = set("area base br col embed hr img input keygen link meta param source track wbr".split())
 CLOSED_AT_ONCE = {"frame", "basefont", "bgsound"}
@@ -32,9 +32,24 @@ IMPLIED = set("dd dt li optgroup option p rb rp rt rtc".split())
 LOOKED_AT = 512
 
 
+def characters(token):
+    """A token, or each character of a text."""
+    return [("text", it) for it in token[1]] if token[0] == "text" else [token]
+
+
+class Name(str):
+    """The name of a start tag, with the number of its token."""
+
+    source = None
+
+
 class Balance:
+    """Takes the tokens of a page, and puts in the end tags that are left out. `ends` has how far the element of each start tag goes: up to a
+    token, which is its own end tag or isn't."""
+
     def __init__(self):
-        self.open, self.tokens, self.drops_feed = [], [], False
+        self.open, self.tokens, self.ends, self.drops_feed = [], [], {}, False
+        self.source = 0
 
     def depth(self, names, bounds=()):
         """How many open tags are inside the nearest of some names, above the first of the bounds."""
@@ -116,7 +131,9 @@ class Balance:
         if name == "table":
             self.close_nearest({"table"}, {"td", "th", "caption", "template"})
 
-    def start(self, name, pairs, closes):
+    def start(self, tag, pairs, closes):
+        name = Name(tag)
+        name.source = self.source
         if self.is_dropped(name):
             return
         self.before_start(name)
@@ -166,46 +183,22 @@ class Balance:
         elif token[0] == "comment":
             self.tokens.append(token)
 
+    def take_all(self, tokens):
+        """Takes tokens and the end of the page, and notes the ends of elements."""
+        for source, token in enumerate(tokens):
+            self.source, count = source, len(self.tokens)
+            for it in characters(token):
+                self.take(it)
+            self.note(self.tokens[count:], token[0] == "end")
+        self.source, count = len(tokens), len(self.tokens)
+        self.close(len(self.open))
+        self.note(self.tokens[count:], False)
+        return self.ends
 
-def characters(tokens):
-    return [it for token in tokens for it in ([("text", each) for each in token[1]] if token[0] == "text" else [token])]
-
-
-def balanced(tokens):
-    balance = Balance()
-    for token in characters(tokens):
-        balance.take(token)
-    balance.close(len(balance.open))
-    return balance.tokens
-
-
-def has_doctype(tokens):
-    """Whether comments and white space alone stand before the first doctype."""
-    before = [token for token in characters(tokens) if token[0] != "comment" and (token[0] != "text" or token[1] not in WHITE_SPACE)]
-    return bool(before) and before[0] == ("doctype",)
-
-
-def coded(name):
-    """A name, with each byte that names of `tl` lack as `+` and two digits."""
-    kept = b"abcdefghijklmnopqrstuvwxyz0123456789-_:"
-    return "".join(chr(it) if it in kept else f"+{it:02x}" for it in name.encode()) or "+"
-
-
-def coded_tag(name):
-    return "+63ommand" if name == "command" else coded(name)
-
-
-def written(token):
-    if token[0] == "text":
-        return token[1].replace("&", "&amp;").replace("<", "&lt;")
-    if token[0] == "start":
-        values = [(coded(key), value.replace("&", "&amp;").replace('"', "&quot;")) for key, value in token[2]]
-        return f"<{coded_tag(token[1])}" + "".join(f' {key}="{value}"' for key, value in values) + ">"
-    if token[0] == "end":
-        return f"</{coded_tag(token[1])}>"
-    return f"<!--{token[1]}-->"
-
-
-def html_form(text):
-    tokens = html_tokens(text)
-    return ("<!doctype html>" if has_doctype(tokens) else "") + "".join(map(written, balanced(tokens)))
+    def note(self, given, is_end):
+        """Notes what a token gives: of the end tags that an end tag gives the last is its own."""
+        for at, token in enumerate(given):
+            if token[0] == "start" and token[1] in VOID and isinstance(token[1], Name):
+                self.ends[token[1].source] = (self.source, False)
+            elif token[0] == "end" and isinstance(token[1], Name):
+                self.ends[token[1].source] = (self.source, is_end and at == len(given) - 1)
