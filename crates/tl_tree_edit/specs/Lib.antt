@@ -1,7 +1,6 @@
 pub mod Lists
 pub mod Bare
 pub mod Changes
-pub mod Elements
 pub mod Examples
 pub mod View
 pub mod Inner

@@ -1,6 +1,6 @@
 //! Worked rows.
-ghost use Rattle.std.specs.Prelude.{◌≡◌, ◌∷◌, [], codes};
-ghost use Rattle.tl_tree_edit.specs.Examples.{ends, tag, without_beside, without_row};
+ghost use Rattle.std.specs.Prelude.{◌≡◌, codes};
+ghost use Rattle.tl_tree_edit.specs.Examples.{without_beside, without_row};
 
 /// A row that is removed: what was behind it moves up, and texts that meet are one.
 pub fn removed_rows()
@@ -11,17 +11,4 @@ pub fn removed_rows()
     ensures no_such_row { without_row 9
         ≡ codes "p - 5; 'a' 0 2; b 0 4; 'c' 2 4; 'd' 0 5; 'e' - 6; " }
     ensures apart { without_beside 2 ≡ codes "p - 2; 'a' 0 2; 'c' - 3; " }
-{}
-
-/// Where elements end.
-pub fn ends_of_elements()
-    ensures own { ends (tag 1 "b" ∷ []) (codes "b" ∷ []) ≡ codes "15 " }
-    ensures left_out { ends [] (codes "b" ∷ []) ≡ codes "99 " }
-    ensures inner_first { ends (tag 1 "b" ∷ tag 5 "p" ∷ []) (codes "b" ∷ codes "p" ∷ [])
-        ≡ codes "15 59 " }
-    ensures inner_left_out { ends (tag 1 "ul" ∷ []) (codes "li" ∷ codes "ul" ∷ [])
-        ≡ codes "11 15 " }
-    ensures other_names { ends (tag 1 "i" ∷ tag 5 "b" ∷ []) (codes "b" ∷ []) ≡ codes "59 " }
-    ensures same_name { ends (tag 1 "div" ∷ []) (codes "div" ∷ codes "div" ∷ [])
-        ≡ codes "15 99 " }
 {}
