@@ -195,7 +195,7 @@ def refusal(page, rows, word, content):
     """What is said of a page in which these elements are found: an expression for it; None where the edit is done."""
     untagged = next((row for row in rows if row.place is None), None)
     if untagged and word != "unset":
-        return f"an element without a tag, which is put in at byte {page.byte(page.put_in_before(untagged))}"
+        return f"the element that is put in at byte {page.byte(page.put_in_before(untagged))} has no tag"
     for place in page.places_of(rows):
         if not page.begins_tag(place):
             at = page.byte(place)
