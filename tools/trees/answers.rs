@@ -112,7 +112,7 @@ fn put_tables(
 ) -> Result<(), NoRoom> {
     let numbers = found(alloc, tree, selector)?;
     for number in &numbers {
-        write_table(alloc, tree, *number, Columns::Commas, spans, out)?;
+        write_table(alloc, tree, *number, Columns::Commas, spans, usize::MAX, out)?;
     }
     Ok(())
 }

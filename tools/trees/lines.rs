@@ -4,10 +4,18 @@
 
 use std::alloc::{AllocError, AllocFailed, Global};
 use tl_tree::{Attribute, AttributeSpace, Doctype, Kind, Namespace, Tree};
+use tl_tree_extract::TableError;
 
 /// Memory ran out.
 #[derive(Clone, Copy, Debug)]
 pub(crate) struct NoRoom;
+
+// No table is longer than all numbers.
+impl From<TableError> for NoRoom {
+    fn from(_: TableError) -> Self {
+        NoRoom
+    }
+}
 
 impl From<AllocError> for NoRoom {
     fn from(_: AllocError) -> Self {
