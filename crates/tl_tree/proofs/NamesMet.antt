@@ -109,8 +109,8 @@ module _ (old new : MetNames) (k : Vec ℕ Global) (v : ℕ) (is : new.numbers.e
         | inr own ↦ absurd (none≢Some (sym none ∙ own-number old k.items own))
       ]
 
-  pub name-kept : (n : List ℕ) (number : ℕ) → lowered_number old n ≡ Some number → lowered_number new n ≡ Some number
-  name-kept n number e =
+  pub name_kept : (n : List ℕ) (number : ℕ) → lowered_number old n ≡ Some number → lowered_number new n ≡ Some number
+  name_kept n number e =
       elim (cases_Bool (nat_eq (name_of n).number 159)) [
         | inl other ↦ elim (cases_Bool (bytes_eq n k.items)) [
           | inl same ↦ absurd (none≢Some (sym none ∙ (ap (lowered_number old) (sym ((bytes_eq-Decides n k.items).0 same)) ∙ e)))

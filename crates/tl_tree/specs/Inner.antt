@@ -29,7 +29,6 @@ pub mod Tallied
 pub mod Modes
 pub mod GroupNames
 pub mod BodyGroups
-pub mod Doctyping
 pub mod Known
 pub mod Limits
 pub mod Builders

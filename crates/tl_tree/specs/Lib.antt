@@ -7,3 +7,4 @@ pub mod Contexts
 pub mod Places
 pub mod Sources
 pub mod Examples
+pub mod Pages

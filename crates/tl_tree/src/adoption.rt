@@ -197,7 +197,6 @@ fn adopt_near(
     let new = path.next;
     path.renew_near(place, own.tag)?;
     active.relist(own.number, new);
-    path.enter_frames()?;
     Ok(0)
 }
 
@@ -233,12 +232,11 @@ fn adopt_far(
     path.renew(block + made, own.tag)?;
     list_new(path, active, own, new, made, first)?;
     path.settle_outside(block, ancestor, is_fostering)?;
-    path.enter_frames()?;
     Ok(made)
 }
 
 /// A round with a furthest block, which stands at a place of the path. How many elements were made
-/// anew is the answer.
+/// anew is the answer. Frames may be left that aren't known where the path is searched.
 pub(crate) fn adopt(
     path: &mut FramePath<'_>,
     active: &mut ActiveList,

@@ -188,6 +188,14 @@ impl<'a> Builder<'a> {
         Ok(())
     }
 
+    // All elements are known where the path is searched, once the rounds are done.
+    fn enter_frames(&mut self) -> Result<(), GrowError>
+        ensures ok { builder_of self.new ≡ builder_of self.old }
+        ensures token { token_of self.new ≡ token_of self.old }
+    {
+        self.path.enter_frames()
+    }
+
     // Whether the current node has this name, and isn't listed.
     fn is_current_alone(&self, name: &[u8]) -> bool
         ensures { result ≡ (is_named name.now (current_node (builder_of self.now)).tag
@@ -206,6 +214,7 @@ impl<'a> Builder<'a> {
         if self.is_current_alone(name) {
             return self.pop_current_node();
         }
-        self.adoption_rounds(name)
+        self.adoption_rounds(name)?;
+        self.enter_frames()
     }
 }

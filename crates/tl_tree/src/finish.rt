@@ -15,7 +15,6 @@ use crate::error::GrowError;
 use crate::path::FramePath;
 use crate::places::Places;
 use crate::settle::tree_of;
-use crate::store::Store;
 use crate::test::Test;
 use crate::tree::Tree;
 use std::alloc::Global;
@@ -34,20 +33,6 @@ impl<'a> FramePath<'a> {
             return Ok(frame.children);
         }
         self.add(frame.children, Node::Joined(frame.waiting))
-    }
-
-    // The store. All frames are gone.
-    fn into_store(self) -> Store<'a>
-        ensures { result ≡ self.entry.store }
-    {
-        let FramePath {
-            store,
-            frames: _,
-            next: _,
-            scopes: _,
-            placed: _,
-        } = self;
-        store
     }
 
     // What stands in the innermost frame that passes a test, or in the document, as a row. All

@@ -13,6 +13,7 @@ use crate::alike::attributes;
 use crate::entries::{AttributeEntry, AttributeList, AttributeSpace, Namespace, TagEntry};
 use crate::error::GrowError;
 use crate::foreign_words::{cased, key_words, name_words};
+use crate::lowered::are_same;
 use crate::path::FramePath;
 use crate::span::Span;
 use crate::store::Store;
@@ -45,13 +46,13 @@ fn prefix_of(key: &[u8], own: AttributeSpace) -> (AttributeSpace, u32)
         ≡ prefixed (spaced (attribute_space_of own) 0 key.now value) }
     ensures within { result.1 ≤ length key.now }
 {
-    if key == b"xmlns".as_slice() {
+    if are_same(key, b"xmlns") {
         (AttributeSpace::Xmlns, 0)
-    } else if key == b"xmlns:xlink".as_slice() {
+    } else if are_same(key, b"xmlns:xlink") {
         (AttributeSpace::Xmlns, 6)
-    } else if key == b"xml:lang".as_slice() {
+    } else if are_same(key, b"xml:lang") {
         (AttributeSpace::Xml, 4)
-    } else if key == b"xml:space".as_slice() {
+    } else if are_same(key, b"xml:space") {
         (AttributeSpace::Xml, 4)
     } else if is_link(key) {
         (AttributeSpace::Xlink, 6)

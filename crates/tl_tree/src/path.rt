@@ -27,7 +27,6 @@ use tl_names::element_name::ElementName;
 const FEW: usize = 16;
 
 /// The path, with the outermost frame first, and the store that its frames refer to.
-#[derive(Drop)]
 pub(crate) struct FramePath<'a> {
     pub(crate) store: Store<'a>,
     pub(crate) frames: Vec<Frame>,
@@ -49,6 +48,19 @@ pub(crate) struct FramePath<'a> {
     ghost near: { IsTrue (list_all is_here (drop placed frames.items)) },
 }
 
+// By hand, so that a proof has one step for a drop.
+impl Drop for FramePath<'_> {
+    fn drop(self) {
+        let FramePath {
+            store: _,
+            frames: _,
+            next: _,
+            scopes: _,
+            placed: _,
+        } = self;
+    }
+}
+
 impl<'a> FramePath<'a> {
     ghost use Rattle.std.specs.List.{list_any};
     ghost use Rattle.std.specs.Prelude.{IfOk, IfSome, None, OnOk, Some, [], false, reverse, slice_get, slice_index_or, slice_set, take, true, ◌+◌, ◌-◌, ◌^◌, ◌∷◌, ◌≡◌, ◌≤◌};
@@ -59,6 +71,20 @@ impl<'a> FramePath<'a> {
     ghost use Rattle.tl_tree.specs.Inner.Frames.{changed, children_of, closed, fostered, frame_of, frames_of, is_frame, path_of, place_of, sought, test_of, test_or_other, with_late};
     ghost use Rattle.tl_tree.specs.Inner.Tests.{tag_test_of};
     ghost use Rattle.tl_tree.specs.Inner.Store.{Grows, is_node, is_row, is_tag_number, node_of, nodes_of, tag_at};
+
+    // The store. All frames are gone.
+    pub(crate) fn into_store(self) -> Store<'a>
+        ensures { result ≡ self.entry.store }
+    {
+        let FramePath {
+            store,
+            frames: _,
+            next: _,
+            scopes: _,
+            placed: _,
+        } = self;
+        store
+    }
 
     /// The document alone.
     pub(crate) fn new(alloc: Global, page: &'a [u8]) -> Result<FramePath<'a>, GrowError>

@@ -4,37 +4,38 @@ ghost use Rattle.tl_dom_spec.specs.Builder.{state_inside};
 ghost use Rattle.tl_html_spec.specs.HtmlTokenizer.{after_start};
 ghost use Rattle.tl_html_tokens.specs.Modes.{state_of};
 
+use crate::lowered::are_same;
 use tl_html_tokens::Mode;
 
 /// The state after a start tag of a name.
 pub(crate) fn after_start(name: &[u8]) -> Mode
     ensures { state_of result ≡ after_start name.now }
 {
-    if name == b"title".as_slice() {
+    if are_same(name, b"title") {
         return Mode::Title;
     }
-    if name == b"textarea".as_slice() {
+    if are_same(name, b"textarea") {
         return Mode::Textarea;
     }
-    if name == b"style".as_slice() {
+    if are_same(name, b"style") {
         return Mode::Style;
     }
-    if name == b"xmp".as_slice() {
+    if are_same(name, b"xmp") {
         return Mode::Xmp;
     }
-    if name == b"iframe".as_slice() {
+    if are_same(name, b"iframe") {
         return Mode::Iframe;
     }
-    if name == b"noembed".as_slice() {
+    if are_same(name, b"noembed") {
         return Mode::Noembed;
     }
-    if name == b"noframes".as_slice() {
+    if are_same(name, b"noframes") {
         return Mode::Noframes;
     }
-    if name == b"script".as_slice() {
+    if are_same(name, b"script") {
         return Mode::Script;
     }
-    if name == b"plaintext".as_slice() {
+    if are_same(name, b"plaintext") {
         return Mode::Plaintext;
     }
     Mode::Data
@@ -44,7 +45,7 @@ pub(crate) fn after_start(name: &[u8]) -> Mode
 pub(crate) fn state_inside(name: &[u8]) -> Mode
     ensures { state_of result ≡ state_inside name.now }
 {
-    if b"noscript".as_slice() == name {
+    if are_same(b"noscript", name) {
         return Mode::Noscript;
     }
     after_start(name)

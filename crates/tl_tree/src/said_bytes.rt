@@ -10,9 +10,8 @@ use crate::error::GrowError;
 use crate::span::Span;
 use crate::store::Store;
 use std::alloc::Global;
-use tl_html_parts::{PartPlace, characters};
+use tl_html_parts::{PartPlace, characters, lower_name};
 use tl_html_tokens::Mode;
-use tl_html_write::lower_name;
 use tl_text::unescape_value;
 
 // Whether bytes stand at a place of a page.

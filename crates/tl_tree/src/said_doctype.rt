@@ -1,13 +1,12 @@
 //! What a doctype says, put into a store.
 ghost use Rattle.std.specs.Option.{option_map};
 ghost use Rattle.std.specs.Prelude.{IfOk, IsTrue, drop, length, ◌≡◌, ◌≤◌};
+ghost use Rattle.tl_html_doctype.specs.Doctyping.{doctyping_of, id_of};
 ghost use Rattle.tl_html_tokens.specs.Doctypes.{doctype_at, doctype_said};
-ghost use Rattle.tl_tree.specs.Inner.Doctyping.{doctyping_of, id_of};
 ghost use Rattle.tl_tree.specs.Inner.Said.{piece_at};
 ghost use Rattle.tl_tree.specs.Inner.Store.{Grows, bytes_of, doctype_of, is_doctype};
 ghost use Rattle.tl_tree.specs.Inner.Within.{id_is_within};
 
-use crate::doctype_reader::{DoctypeReader, Identifier};
 use crate::entries::DoctypeEntry;
 use crate::error::GrowError;
 use crate::said_bytes::put_bytes;
@@ -15,6 +14,7 @@ use crate::span::Span;
 use crate::store::Store;
 use memchr::memchr2;
 use std::alloc::Global;
+use tl_html_doctype::{DoctypeReader, Identifier};
 
 // What stands after `<!doctype`.
 fn after_keyword(bytes: &[u8]) -> &[u8]

@@ -19,7 +19,6 @@ use std::alloc::{AllocError, Global};
 use tl_names::element_name::ElementName;
 
 /// What was read of a page and is settled.
-#[derive(Drop)]
 pub(crate) struct Store<'a> {
     pub(crate) page: &'a [u8],
     /// Bytes that don't stand so in the page.
@@ -55,6 +54,66 @@ pub(crate) struct Store<'a> {
         })
         0
         cells.items) },
+}
+
+// By hand, so that a proof has one step for a drop.
+impl Drop for Store<'_> {
+    fn drop(self) {
+        let Store {
+            page: _,
+            side: _,
+            attributes: _,
+            tags: _,
+            names: _,
+            doctypes: _,
+            cells: _,
+        } = self;
+    }
+}
+
+impl<'p> Store<'p> {
+    ghost use Rattle.std.specs.Prelude.{IfOk, []};
+    ghost use Rattle.tl_tree.specs.Inner.Store.{text_of};
+
+    /// A copy of the text: the page, and behind it the side buffer.
+    pub(crate) fn copied_text(&self, alloc: Global) -> Result<Vec<u8>, AllocError>
+        ensures { IfOk result (λ text. text.items ≡ text_of self.now) }
+    {
+        let mut text = Vec::with_capacity(alloc, self.page.len() + self.side.len())?;
+        text.extend_from_slice(self.page)?;
+        text.extend_from_slice(self.side.as_slice())?;
+        Ok(text)
+    }
+
+    /// The store with all of its text in the side buffer, and without cells: each span says the
+    /// same bytes as before.
+    pub(crate) fn with_text(self, alloc: Global, text: Vec<u8>) -> Store<'static>
+        requires { text.items ≡ text_of self }
+        ensures text { text_of result ≡ text_of self.entry }
+        ensures page { result.page.now ≡ [] }
+        ensures tags { result.tags ≡ self.entry.tags }
+        ensures attributes { result.attributes ≡ self.entry.attributes }
+        ensures doctypes { result.doctypes ≡ self.entry.doctypes }
+    {
+        let Store {
+            page: _,
+            side: _,
+            attributes,
+            tags,
+            names,
+            doctypes,
+            cells: _,
+        } = self;
+        Store {
+            page: &[],
+            side: text,
+            attributes,
+            tags,
+            names,
+            doctypes,
+            cells: Vec::new(alloc),
+        }
+    }
 }
 
 // Bytes of a text that is a page, and behind it others.

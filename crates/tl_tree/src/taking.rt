@@ -28,9 +28,8 @@ use crate::group::group_of;
 use crate::lowered::are_same;
 use crate::token::Token;
 use std::alloc::Global;
-use tl_html_parts::{AttributePlace, PartPlace, TagFront};
+use tl_html_parts::{AttributePlace, PartPlace, TagFront, lower_name};
 use tl_html_tokens::{Mode, TokenKind};
-use tl_html_write::lower_name;
 use tl_names::element_name::ElementName;
 
 impl<'a> Builder<'a> {

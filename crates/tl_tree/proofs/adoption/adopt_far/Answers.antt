@@ -5,7 +5,6 @@ use Rattle.tl_dom_spec.specs.Path.{Path, elements}
 use Rattle.tl_tree.proofs.ActiveNumbers.{active-grown}
 use Rattle.tl_tree.proofs.Adopted.{cloned-first, cloned-next, made-all, path-adopted}
 use Rattle.tl_tree.proofs.Cloned.{made-length}
-use Rattle.tl_tree.proofs.Entering.{same-path}
 use Rattle.tl_tree.proofs.FrameParts.{grows-on}
 use Rattle.tl_tree.proofs.Grown.{grows_refl}
 use Rattle.tl_tree.proofs.Readopted.{outside-part}
@@ -48,7 +47,6 @@ returns-clause-ok c =
     let q = c.add_clones.new.path in
     let r = c.renew.new.self in
     let t = c.settle_outside.new.self in
-    let u = c.enter_frames.new.self in
     let n = c.args.block in
     let m = c.in_ok-made.made in
     let mid = c.add_clones.new.active in
@@ -76,19 +74,16 @@ returns-clause-ok c =
     let sum = cloned-next 0 (elements (inside_of own.number (outside_of block.number path))) entries p.next in
     record {
       path =
-          same-path t u c.enter_frames.ensures.frames c.enter_frames.ensures.store
-          ∙ path-adopted p q t c.args.is_fostering own n (n + m) q.next made.clones (active_of q.store mid) c.common_ancestor-ancestor.result (frames_of r) c.requires.block (omega arith)
+          path-adopted p q t c.args.is_fostering own n (n + m) q.next made.clones (active_of q.store mid) c.common_ancestor-ancestor.result (frames_of r) c.requires.block (omega arith)
           made.frames renewed_as c.in_ok-settle_outside.ensures.frames c.common_ancestor-ancestor.ensures
           ∙ ap (λ (cl : Clones). adopted_path c.args.is_fostering own block cl (outer_in own block path) path) (sym whole);
       active =
-          ap (λ (s : Store). active_of s list) c.enter_frames.ensures.store
-          ∙ (active-grown p.store t.store grows list least
+          active-grown p.store t.store grows list least
           ∙ (listed
           ∙ (ap (λ (s : Store). entry_moved own.number q.next own.tag made.clones (active_of s mid)) (sym stored)
-          ∙ ap (adopted_entries own) (sym whole))));
+          ∙ ap (adopted_entries own) (sym whole)));
       next =
-          c.enter_frames.ensures.next
-          ∙ (c.settle_outside.ensures.next ∙ (c.in_ok-renew.ensures.next ∙ omega arith));
+          c.settle_outside.ensures.next ∙ (c.in_ok-renew.ensures.next ∙ omega arith);
       made = omega arith;
     }
 
@@ -102,17 +97,6 @@ returns-in_err-settle_outside-clause-tallied c =
     let many = ap (λ (s : Store). length s.tags.items) (c.renew.ensures.store ∙ c.add_clones.ensures.store) in
     tallied-grown r.store t.store c.settle_outside.ensures.grows list (omega (arith, many, least)) c.list_new.ensures.tallied
 
-pub returns-in_err-enter_frames-clause-tallied : goal.returns-in_err-enter_frames-clause-tallied
-returns-in_err-enter_frames-clause-tallied c =
-    let p = c.args.path.now in
-    let r = c.renew.new.self in
-    let t = c.settle_outside.new.self in
-    let list = c.list_new.new.active in
-    let least = c.list_new.ensures.tag (length p.store.tags.items) (omega (arith, c.add_clones.ensures.tag, c.requires.listed)) c.requires.own in
-    let many = ap (λ (s : Store). length s.tags.items) (c.renew.ensures.store ∙ c.add_clones.ensures.store) in
-    subst (λ (s : Store). IsTallied s list) (sym c.enter_frames.ensures.store)
-    (tallied-grown r.store t.store c.settle_outside.ensures.grows list (omega (arith, many, least)) c.list_new.ensures.tallied)
-
 pub returns-clause-tallied : goal.returns-clause-tallied
 returns-clause-tallied c =
     let p = c.args.path.now in
@@ -121,8 +105,7 @@ returns-clause-tallied c =
     let list = c.list_new.new.active in
     let least = c.list_new.ensures.tag (length p.store.tags.items) (omega (arith, c.add_clones.ensures.tag, c.requires.listed)) c.requires.own in
     let many = ap (λ (s : Store). length s.tags.items) (c.renew.ensures.store ∙ c.add_clones.ensures.store) in
-    subst (λ (s : Store). IsTallied s list) (sym c.enter_frames.ensures.store)
-    (tallied-grown r.store t.store c.settle_outside.ensures.grows list (omega (arith, many, least)) c.list_new.ensures.tallied)
+    tallied-grown r.store t.store c.settle_outside.ensures.grows list (omega (arith, many, least)) c.list_new.ensures.tallied
 
 pub add_clones-requires-clause-numbered : goal.add_clones-requires-clause-numbered
 add_clones-requires-clause-numbered c = c.requires.numbered
@@ -185,19 +168,10 @@ returns-in_err-settle_outside-clause-grows c =
     let t = c.settle_outside.new.self.store in
     subst (λ (s : Store). Grows s t) (c.renew.ensures.store ∙ c.add_clones.ensures.store) c.settle_outside.ensures.grows
 
-pub returns-in_err-enter_frames-clause-grows : goal.returns-in_err-enter_frames-clause-grows
-returns-in_err-enter_frames-clause-grows c =
-    let t = c.settle_outside.new.self.store in
-    grows-on c.args.path.now.store t c.enter_frames.new.self.store
-    (subst (λ (s : Store). Grows s t) (c.renew.ensures.store ∙ c.add_clones.ensures.store) c.settle_outside.ensures.grows)
-    c.enter_frames.ensures.store
-
 pub returns-clause-grows : goal.returns-clause-grows
 returns-clause-grows c =
     let t = c.settle_outside.new.self.store in
-    grows-on c.args.path.now.store t c.enter_frames.new.self.store
-    (subst (λ (s : Store). Grows s t) (c.renew.ensures.store ∙ c.add_clones.ensures.store) c.settle_outside.ensures.grows)
-    c.enter_frames.ensures.store
+    subst (λ (s : Store). Grows s t) (c.renew.ensures.store ∙ c.add_clones.ensures.store) c.settle_outside.ensures.grows
 
 pub returns-in_err-list_new-clause-listed : goal.returns-in_err-list_new-clause-listed
 returns-in_err-list_new-clause-listed c =
@@ -207,12 +181,6 @@ returns-in_err-list_new-clause-listed c =
 
 pub returns-in_err-settle_outside-clause-listed : goal.returns-in_err-settle_outside-clause-listed
 returns-in_err-settle_outside-clause-listed c =
-    let least =
-    c.list_new.ensures.tag (length c.args.path.now.store.tags.items) (omega (arith, c.add_clones.ensures.tag, c.requires.listed)) c.requires.own in
-    least
-
-pub returns-in_err-enter_frames-clause-listed : goal.returns-in_err-enter_frames-clause-listed
-returns-in_err-enter_frames-clause-listed c =
     let least =
     c.list_new.ensures.tag (length c.args.path.now.store.tags.items) (omega (arith, c.add_clones.ensures.tag, c.requires.listed)) c.requires.own in
     least
@@ -247,14 +215,8 @@ returns-in_err-settle_outside-clause-more c = omega (arith, c.add_clones.ensures
 pub returns-in_err-settle_outside-clause-numbered : goal.returns-in_err-settle_outside-clause-numbered
 returns-in_err-settle_outside-clause-numbered c = omega (arith, c.list_new.ensures.number, c.in_ok-renew.ensures.next, c.settle_outside.ensures.next)
 
-pub returns-in_err-enter_frames-clause-more : goal.returns-in_err-enter_frames-clause-more
-returns-in_err-enter_frames-clause-more c = omega (arith, c.add_clones.ensures.more, c.renew.ensures.more, c.settle_outside.ensures.next, c.enter_frames.ensures.next)
-
-pub returns-in_err-enter_frames-clause-numbered : goal.returns-in_err-enter_frames-clause-numbered
-returns-in_err-enter_frames-clause-numbered c = omega (arith, c.list_new.ensures.number, c.in_ok-renew.ensures.next, c.settle_outside.ensures.next, c.enter_frames.ensures.next)
-
 pub returns-clause-more : goal.returns-clause-more
-returns-clause-more c = omega (arith, c.add_clones.ensures.more, c.renew.ensures.more, c.settle_outside.ensures.next, c.enter_frames.ensures.next)
+returns-clause-more c = omega (arith, c.add_clones.ensures.more, c.renew.ensures.more, c.settle_outside.ensures.next)
 
 pub returns-clause-numbered : goal.returns-clause-numbered
-returns-clause-numbered c = omega (arith, c.list_new.ensures.number, c.in_ok-renew.ensures.next, c.settle_outside.ensures.next, c.enter_frames.ensures.next)
+returns-clause-numbered c = omega (arith, c.list_new.ensures.number, c.in_ok-renew.ensures.next, c.settle_outside.ensures.next)

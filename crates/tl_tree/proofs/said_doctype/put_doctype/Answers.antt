@@ -1,6 +1,6 @@
 use Rattle.std.proofs.Common.{◌∙◌}
 use Rattle.tl_tree.proofs.SaidDoctypes.{doctype-put, doctype-within}
-use Rattle.tl_tree.specs.Inner.Doctyping.{doctyping_of}
+use Rattle.tl_html_doctype.specs.Doctyping.{doctyping_of}
 use Rattle.tl_tree.specs.declared.entries.DoctypeEntry.{DoctypeEntry}
 use Rattle.tl_tree.proofs.Grown.{grows_trans}
 use Rattle.tl_tree.proofs.said_doctype.put_doctype.Goals as goal

@@ -1,5 +1,5 @@
 use Rattle.std.proofs.Common.{◌∙◌}
-use Rattle.tl_tree.proofs.NamesMet.{name-added, name-kept, names-same}
+use Rattle.tl_tree.proofs.NamesMet.{name-added, name_kept, names-same}
 use Rattle.tl_tree.proofs.met_names.MetNames.add.Goals as goal
 
 pub returns-in_err-insert-clause-kept : goal.returns-in_err-insert-clause-kept
@@ -12,4 +12,4 @@ returns-clause-own c =
 
 pub returns-clause-kept : goal.returns-clause-kept
 returns-clause-kept c =
-    name-kept c.args.self.now (record { numbers = c.insert.new.self }) c.args.name _ c.in_ok-insert.ensures.entries c.requires
+    name_kept c.args.self.now (record { numbers = c.insert.new.self }) c.args.name _ c.in_ok-insert.ensures.entries c.requires

@@ -4,14 +4,14 @@ ghost use Rattle.std.specs.Char.{to_ascii_lowercase};
 ghost use Rattle.tl_html_spec.specs.Doctypes.{doctype_step, gone_bogus, in_name, is_cut, keyword_read, name_end, no_doctype, or_empty, public_opened, public_quoted, public_start, system_opened, system_quoted, system_start, with_name};
 ghost use Rattle.tl_html_spec.specs.HtmlTokenizer.{char_of, is_white_space, with_feeds};
 ghost use Rattle.tl_html_tokens.specs.Doctypes.{doctype_at, doctype_from};
-ghost use Rattle.tl_tree.specs.Inner.Doctyping.{doctyping_of, id_of, part_of, without_feed};
+ghost use Rattle.tl_html_doctype.specs.Doctyping.{doctyping_of, id_of, part_of, without_feed};
 
 use std::alloc::{AllocError, Global};
 
 /// How far a doctype is read: the states of the standard, two of which are one where they do the
 /// same.
 #[derive(Clone, Copy)]
-pub(crate) enum DoctypePart {
+pub enum DoctypePart {
     NameStart,
     InName,
     NameEnd,
@@ -26,21 +26,21 @@ pub(crate) enum DoctypePart {
 
 /// An identifier, which may be missing.
 #[derive(Drop)]
-pub(crate) struct Identifier {
-    pub(crate) is_there: bool,
-    pub(crate) bytes: Vec<u8>,
+pub struct Identifier {
+    pub is_there: bool,
+    pub bytes: Vec<u8>,
 }
 
 /// A doctype that is being read.
 #[derive(Drop)]
-pub(crate) struct DoctypeReader {
-    pub(crate) part: DoctypePart,
+pub struct DoctypeReader {
+    pub part: DoctypePart,
     /// What was read of `public` or `system`.
-    pub(crate) word: Vec<u8>,
-    pub(crate) name: Vec<u8>,
-    pub(crate) public_id: Identifier,
-    pub(crate) system_id: Identifier,
-    pub(crate) forces_quirks: bool,
+    pub word: Vec<u8>,
+    pub name: Vec<u8>,
+    pub public_id: Identifier,
+    pub system_id: Identifier,
+    pub forces_quirks: bool,
 }
 
 fn is_white_space(byte: u8) -> bool
@@ -81,7 +81,7 @@ impl Identifier {
 
 impl DoctypeReader {
     /// Nothing is read yet.
-    pub(crate) fn new(alloc: Global) -> DoctypeReader
+    pub fn new(alloc: Global) -> DoctypeReader
         ensures { doctyping_of result ≡ no_doctype }
     {
         DoctypeReader {
@@ -269,7 +269,7 @@ impl DoctypeReader {
     }
 
     /// Reads up to the first `>`, and answers whether it is there.
-    pub(crate) fn read(&mut self, text: &[u8]) -> Result<bool, AllocError>
+    pub fn read(&mut self, text: &[u8]) -> Result<bool, AllocError>
         ensures { IfOk result (λ is_whole.
             doctype_from (doctyping_of self.old) (with_feeds text.now)
             ≡ doctype_at is_whole (doctyping_of self.new)) }
@@ -303,7 +303,7 @@ impl DoctypeReader {
     }
 
     /// Whether it asks for quirks mode, as it ends at a `>` or with the page.
-    pub(crate) fn asks_for_quirks(&self, is_whole: bool) -> bool
+    pub fn asks_for_quirks(&self, is_whole: bool) -> bool
         ensures { result ≡ (doctype_at is_whole (doctyping_of self.now)).forces_quirks }
     {
         if self.forces_quirks {

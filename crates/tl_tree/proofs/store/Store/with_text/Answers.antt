@@ -1,20 +1,16 @@
-use Rattle.std.proofs.Common.{List, ap, arith, length, length-append, map, refl, subst, sym, ℕ, ◌++◌, ◌+◌, ◌∙◌, ◌≡◌}
+use Rattle.std.proofs.Common.{ap, arith, length, length-append, map, refl, subst, sym, ◌++◌, ◌+◌, ◌∙◌, ◌≡◌}
 use Rattle.tl_tree.proofs.OwnText.{attributes-owned, doctypes-owned, tags-owned}
 use Rattle.tl_tree.specs.Inner.Lists.{AreBothPlaced, in_list, many_in}
 use Rattle.tl_tree.specs.Inner.Within.{key_in, known_in, known_of, number_of, numbered_in}
-use Rattle.tl_tree.proofs.store.Store.into_owned.Goals as goal
+use Rattle.tl_tree.proofs.store.Store.with_text.Goals as goal
 
 pub invariant_of-result : goal.invariant_of-result
 invariant_of-result c =
     let s = c.args.self in
     let page = s.page.now in
     let side = s.side.items in
-    let all = c.extend_from_slice-2.new.self.items in
-    let front : c.extend_from_slice.new.self.items ≡ page =
-    c.in_ok-extend_from_slice.ensures.items ∙ ap (λ v. v ++ page) c.in_ok-text.ensures.items in
-    let is : all ≡ page ++ side =
-    c.in_ok-extend_from_slice-2.ensures.items
-    ∙ (ap (λ v. v ++ c.as_slice.result.now) front ∙ ap (λ v. page ++ v) c.as_slice.ensures.value) in
+    let all = c.args.text.items in
+    let is : all ≡ page ++ side = c.requires in
     let many : length all ≡ length page + length side = ap length is ∙ length-append page side in
     record {
       short = let own = s.short in omega (arith, own, many);

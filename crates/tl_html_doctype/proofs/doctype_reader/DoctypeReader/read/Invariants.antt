@@ -1,8 +1,8 @@
 use Rattle.std.proofs.Common.{◌≡◌, drop}
 use Rattle.tl_html_spec.specs.HtmlTokenizer.{with_feeds}
 use Rattle.tl_html_tokens.specs.Doctypes.{doctype_from}
-use Rattle.tl_tree.specs.Inner.Doctyping.{doctyping_of, without_feed}
-use Rattle.tl_tree.proofs.doctype_reader.DoctypeReader.read.Given as goal
+use Rattle.tl_html_doctype.specs.Doctyping.{doctyping_of, without_feed}
+use Rattle.tl_html_doctype.proofs.doctype_reader.DoctypeReader.read.Given as goal
 
 abbrev pub invariant-loop-byte : goal.invariant-loop-byte
 invariant-loop-byte l =

@@ -1,10 +1,10 @@
 -- A doctype that is being read, in words of `tl_html_spec`.
 use Rattle.std.specs.Prelude.{Bool, List, None, Option, Some, [], if◌then◌else◌, ℕ, ◌&&◌, ◌==◌, ◌∷◌}
 use Rattle.tl_html_spec.specs.Doctypes.{Doctyping, Part, bogus_rest, in_name, name_end, name_start, public_end, public_quoted, public_start, system_end, system_quoted, system_start}
-use Rattle.tl_tree.specs.declared.doctype_reader.DoctypePart.{DoctypePart}
-use Rattle.tl_tree.specs.declared.doctype_reader.DoctypePart.TheVariants as part
-use Rattle.tl_tree.specs.declared.doctype_reader.DoctypeReader.{DoctypeReader}
-use Rattle.tl_tree.specs.declared.doctype_reader.Identifier.{Identifier}
+use Rattle.tl_html_doctype.specs.declared.doctype_reader.DoctypePart.{DoctypePart}
+use Rattle.tl_html_doctype.specs.declared.doctype_reader.DoctypePart.TheVariants as part
+use Rattle.tl_html_doctype.specs.declared.doctype_reader.DoctypeReader.{DoctypeReader}
+use Rattle.tl_html_doctype.specs.declared.doctype_reader.Identifier.{Identifier}
 
 -- with what was read of `public` or `system`
 abbrev pub part_of : DoctypePart → List ℕ → Part
