@@ -20,13 +20,13 @@ lower_kept b h = grind (arith, nat_tests)
 nonzero_kept : (b : ℕ) → is_kept_in_name b ≡ true → (b == 0) ≡ false
 nonzero_kept b h = grind (arith, nat_tests)
 
-pub name-kept : (s : List ℕ) → list_all is_kept_in_name s ≡ true → name_of s ≡ s
-name-kept [] h = refl
-name-kept (b ∷ s) h =
+pub name_kept : (s : List ℕ) → list_all is_kept_in_name s ≡ true → name_of s ≡ s
+name_kept [] h = refl
+name_kept (b ∷ s) h =
     let parts = and_parts (is_kept_in_name b) (list_all is_kept_in_name s) h in
     ap (λ c. char_of c ++ name_of s) (lower_kept b parts.0)
     ∙ ap (λ (x : Bool). (if x then replacement else b ∷ []) ++ name_of s) (nonzero_kept b parts.0)
-    ∙ ap (λ x. b ∷ x) (name-kept s parts.1)
+    ∙ ap (λ x. b ∷ x) (name_kept s parts.1)
 
 no_reference : (s : List ℕ) → list_all (λ b. not (b == 38)) s ≡ true → unescaped_value s ≡ s
 no_reference s h = ap unescaped_value (sym (append-nil s)) ∙ bytes-plain true s [] h ∙ append-nil s

@@ -2,17 +2,20 @@
 use Rattle.std.proofs.Common.{◌≡◌, ℕ, ◌<◌, Bool, true, false, ◌==◌, List, [], ◌∷◌, ◌++◌, IsUtf8, codes, map, refl, ap, sym, subst, ◌∙◌, inl, inr, arith, append_assoc, append-nil}
 use Rattle.std.specs.List.{list_all}
 use Rattle.std.proofs.lemmas.Bool.{and_from, and_parts, cases_Bool, eqb-true}
+use Rattle.std.proofs.lemmas.List.Folds.{list_all-append}
 use Rattle.std.proofs.lemmas.Str.{IsUtf8-append, IsUtf8-nil}
 use Rattle.tl_html_spec.specs.HtmlTokenizer.{Character, after_attribute_value, data_state, double_quoted, new_tag, tokens_from, with_attribute}
 use Rattle.tl_html_spec.specs.Unescaped.{is_in_text, is_in_value, unescaped, unescaped_text, unescaped_value}
 use Rattle.tl_html_spec.specs.Utf8.{AreUtf8, AreUtf8After}
 use Rattle.tl_html_spec.proofs.Looked.{byte-plain}
-use Rattle.tl_html_spec.proofs.Read.{all_append}
 use Rattle.tl_html_spec.proofs.Resolved.{IsEnd}
 use Rattle.tl_html_spec.proofs.Seams.{unescaped_cut}
 use Rattle.tl_html_spec.proofs.Texts.{less_than-IsEnd, quote-IsEnd, text_end_read, value_read}
 use Rattle.tl_html_spec.proofs.Utf8Characters.{IsCharacter, all_low, by_characters, is_high, no_byte, one_byte}
 use Rattle.tl_html_spec.proofs.Utf8Page.{text_utf8}
+
+all_append : (p : ℕ → Bool) (xs ys : List ℕ) → list_all p xs ≡ true → list_all p ys ≡ true → list_all p (xs ++ ys) ≡ true
+all_append p xs ys h k = list_all-append p xs ys ∙ and_from (list_all p xs) (list_all p ys) h k
 
 -- a byte that ends each reference, and stands for itself
 record Cuts (q : ℕ) : Type 0 where

@@ -5,10 +5,7 @@ use Rattle.std.specs.Prelude.{ℕ, Bool, true, false, List, [], ◌∷◌, ◌++
 use Rattle.tl_html_spec.specs.HtmlTokenizer.{HtmlAttribute, HtmlToken, Character, StartTag, EndTag, CommentToken, DoctypeToken, data_state, html_tokens, with_feeds}
 use Rattle.tl_html_spec.specs.Balanced.{balanced}
 use Rattle.tl_html_spec.specs.Driven.{Driver, Emission, doctype_of, driven, in_state, plain}
-use Rattle.tl_html_spec.specs.HtmlForm.{html_form}
-use Rattle.tl_html_spec.specs.Nodes.{HtmlNode, SourcedNode, Span, TagNode, TextNode, CommentNode, html_nodes, node_data, read_node, sources, tag_of}
 use Rattle.tl_html_spec.specs.Pieces.{Piece, pieces, placed, runs}
-use Rattle.tl_spec.specs.Tree.Document.{Node, document}
 
 -- the tokens of a page
 abbrev pub read : String → List HtmlToken
@@ -17,10 +14,6 @@ read page = html_tokens (codes page)
 -- these tokens with their end tags
 abbrev pub read_balanced : String → List HtmlToken
 read_balanced page = balanced (html_tokens (codes page))
-
--- a page's form
-abbrev pub form : String → List ℕ
-form page = html_form (codes page)
 
 -- characters by their bytes
 abbrev pub characters : List ℕ → List HtmlToken
@@ -55,27 +48,6 @@ cut page = map (λ (p : Piece). p.bytes) (runs (pieces (codes page)))
 -- and where they begin
 abbrev pub places : String → List ℕ
 places page = map (λ (p : ℕ × Piece). p.0) (placed 0 (runs (pieces (codes page))))
-
--- where the nodes of a page's form come from
-abbrev pub sources_of : String → List Span
-sources_of page = sources (codes page)
-
--- what they are
-abbrev pub nodes_in : String → List HtmlNode
-nodes_in page = map (λ (n : SourcedNode). n.1) (html_nodes (codes page))
-
--- what `tl` reads of it
-abbrev pub nodes_read : String → List HtmlNode
-nodes_read page = map (λ (n : Node). read_node (node_data n)) (document (form page)).nodes
-
-abbrev pub tag_node : String → List HtmlAttribute → List HtmlNode
-tag_node name attributes = TagNode (tag_of (codes name) attributes) ∷ []
-
-abbrev pub text_node : String → List HtmlNode
-text_node text = TextNode (codes text) ∷ []
-
-abbrev pub comment_node : String → List HtmlNode
-comment_node bytes = CommentNode (codes bytes) ∷ []
 
 -- a driver that remembers the tokens, and finds foreign what stands anywhere or nothing; after a
 -- start tag it goes on with data, whatever its name is

@@ -5,11 +5,8 @@ pub mod Reader
 pub mod Pieces
 pub mod Balanced
 pub mod Escapes
-pub mod Coded
+pub mod Digits
 pub mod Sound
-pub mod Written
-pub mod HtmlForm
-pub mod Nodes
 pub mod Examples
 pub mod Utf8
 pub mod Doctypes

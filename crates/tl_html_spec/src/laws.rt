@@ -1,29 +1,20 @@
-//! Laws of the definitions: of the tokenizer and its pieces, of balanced tokens, and of the form in
-//! which `tl` reads a page.
+//! Laws of the definitions: of the tokenizer and its pieces, of balanced tokens, of references and
+//! of UTF-8.
 
 ghost use Rattle.std.specs.Prelude.{◌≡◌, ℕ, ◌+◌, Some, false, List, [], ◌∷◌, ◌++◌, length, true, map, IsUtf8};
 ghost use Rattle.std.specs.List.{list_all};
-ghost use Rattle.tl_spec.specs.Print.Clean.{IsClean, IsCleanTable};
-ghost use Rattle.tl_spec.specs.Tree.Document.{document};
-ghost use Rattle.tl_spec.specs.Tree.Forest.{forest, plain};
-ghost use Rattle.tl_spec.specs.Print.Normal.{ReadsAs};
-ghost use Rattle.tl_spec.specs.Print.{print};
 ghost use Rattle.tl_spec.specs.Lex.Token.{tokens};
 ghost use Rattle.tl_names.specs.References.{table_of};
 ghost use Rattle.tl_html_spec.specs.Balanced.{balanced, left_open};
-ghost use Rattle.tl_html_spec.specs.Coded.{AreBytes, coded, coded_tag, uncoded};
 ghost use Rattle.tl_html_spec.specs.Driven.{AreDriven, DrivenPiece, DrivenState, Driver, Driving, Emission, GoesByName, after_driven, bare, by_name, driven, driven_before, driven_bytes, driven_emits, driven_pieces, driven_tokens, driving, in_state, no_tokens, taken, tokens_driven};
 ghost use Rattle.tl_html_spec.specs.Escapes.{escaped_text, escaped_value};
-ghost use Rattle.tl_html_spec.specs.HtmlForm.{doctype_in, form_tokens, has_doctype, html_form};
 ghost use Rattle.tl_html_spec.specs.HtmlTokenizer.{HtmlToken, State, data_state, html_tokens, without_mark, Character, OpenTag, after_attribute_value, double_quoted, tokens_from, with_attribute, with_feeds};
-ghost use Rattle.tl_html_spec.specs.Nodes.{form_tokens_at, html_nodes, node_data, read_node, sources, written_node};
 ghost use Rattle.tl_html_spec.specs.Pieces.{AreRead, Piece, bytes_of, first_byte, pieces, placed, read_before, runs, tokens_in};
 ghost use Rattle.tl_html_spec.specs.Reader.{Reader, after, at, emitted, page_tokens, read, tokens_of};
 ghost use Rattle.tl_html_spec.specs.References.{IsLongest, Row, named, rows};
 ghost use Rattle.tl_html_spec.specs.Sound.{AreSound};
 ghost use Rattle.tl_html_spec.specs.Unescaped.{is_in_text, is_in_value, unescaped_text, unescaped_value};
 ghost use Rattle.tl_html_spec.specs.Utf8.{AreUtf8};
-ghost use Rattle.tl_html_spec.specs.Written.{AreWritable, tokens_read, written};
 
 /// No tag that the tokenizer emits has an empty name or key, no comment is cut by a `-->` before
 /// its end, and each byte is done with: of the reconsumes that the definition allows none is left.
@@ -144,11 +135,9 @@ pub fn names_drive_the_tokenizer()
 {}
 
 /// Balanced tokens nest: each end tag closes the innermost tag that is open, and none stays open.
-/// So do the tokens of a page's form, whose names are coded.
-#[tactic(auto, using(crate::proofs::Nesting::balanced_nest, crate::proofs::FormNesting::form_nests))]
+#[tactic(auto, using(crate::proofs::Nesting::balanced_nest))]
 pub fn balanced_tokens_nest()
-    ensures balanced { (tokens : List HtmlToken) → left_open [] (balanced tokens) ≡ Some [] }
-    ensures form { (page : List ℕ) → left_open [] (form_tokens page) ≡ Some [] }
+    ensures { (tokens : List HtmlToken) → left_open [] (balanced tokens) ≡ Some [] }
 {}
 
 /// A text up to a `<` or the end is read as the characters that it says, and a value up to its `"`
@@ -184,66 +173,10 @@ pub fn escapes_are_read_back()
         unescaped_value (escaped_value value ++ rest) ≡ value ++ unescaped_value rest }
 {}
 
-/// The name that was coded is read back.
-#[tactic(auto, using(crate::proofs::Uncoding::name_back, crate::proofs::Uncoding::tag_back))]
-pub fn names_are_read_back()
-    ensures keys { (name : List ℕ) → AreBytes name → uncoded (coded name) ≡ name }
-    ensures tags { (name : List ℕ) → AreBytes name → uncoded (coded_tag name) ≡ name }
-{}
-
-/// The grammar of `tl` reads of written tokens just these tokens.
-#[tactic(auto, using(crate::proofs::Read::written_read))]
-pub fn written_tokens_are_read_back()
-    ensures { (tokens : List HtmlToken) → AreWritable tokens →
-        tokens_read (written tokens) ≡ tokens }
-{}
-
-/// The grammar of `tl` reads of a page's form the tokens that the tokenizer of the HTML standard
-/// reads of the page, with the end tags that HTML leaves out, names coded, and its doctype in
-/// front.
-#[tactic(auto, using(crate::proofs::Form::form_read))]
-pub fn html_form_is_read_as_the_page()
-    ensures { (page : List ℕ) →
-        tokens_read (html_form page) ≡ doctype_in (html_tokens page) ++ form_tokens page }
-{}
-
-/// `tl` reads the version HTML5 of a page's form exactly where the page has a doctype.
-#[tactic(auto, using(crate::proofs::Doctype::version_is))]
-pub fn html_form_says_the_version()
-    ensures { (page : List ℕ) →
-        (document (html_form page)).is_html5 ≡ has_doctype (html_tokens page) }
-{}
-
-/// The nodes that `tl` reads of a page's form, in the order of their numbers, are its start tags,
-/// texts and comments, as they are written; read as HTML they say what these tokens do.
-#[tactic(auto, using(crate::proofs::FormNodes::nodes_written, crate::proofs::FormNodes::nodes_read, crate::proofs::FormNodes::tokens_are_the_form, crate::proofs::FormNodes::count_sources))]
-pub fn html_form_has_the_nodes_of_the_page()
-    ensures written { (page : List ℕ) → map node_data (document (html_form page)).nodes
-        ≡ map (λ n. written_node n.1) (html_nodes page) }
-    ensures read { (page : List ℕ) →
-        map (λ n. read_node (node_data n)) (document (html_form page)).nodes
-        ≡ map (λ n. n.1) (html_nodes page) }
-    // these are the nodes of the form's tokens, whatever places are written beside them
-    ensures tokens { (page : List ℕ) → map (λ t. t.1) (form_tokens_at page) ≡ form_tokens page }
-    // and each has its place
-    ensures sources { (page : List ℕ) →
-        length (sources page) ≡ length (document (html_form page)).nodes }
-{}
-
-/// What `tl` reads of a page's form is clean, so its print is read as the same trees.
-pub fn html_form_is_clean()
-    ensures trees { (page : List ℕ) → IsClean (plain (forest (tokens (html_form page)))) }
-    ensures table { (page : List ℕ) →
-        IsCleanTable (document (html_form page)).nodes (document (html_form page)).top }
-    ensures prints { (page : List ℕ) → let trees = plain (forest (tokens (html_form page))) in
-        ReadsAs (print trees) trees }
-{}
-
-/// The tokens of a page in UTF-8 say UTF-8, and the page's form is UTF-8.
-#[tactic(auto, using(crate::proofs::Utf8Page::page_utf8, crate::proofs::Utf8Form::form_utf8))]
-pub fn html_form_is_utf8()
-    ensures tokens { (page : List ℕ) → IsUtf8 page → AreUtf8 (html_tokens page) }
-    ensures form { (page : List ℕ) → IsUtf8 page → IsUtf8 (html_form page) }
+/// The tokens of a page in UTF-8 say UTF-8.
+#[tactic(auto, using(crate::proofs::Utf8Page::page_utf8))]
+pub fn tokens_are_utf8()
+    ensures { (page : List ℕ) → IsUtf8 page → AreUtf8 (html_tokens page) }
 {}
 
 /// What a text or a value in UTF-8 says is UTF-8.

@@ -1,10 +1,10 @@
-//! What the HTML standard's tokenizer reads of a page, and that written down for the grammar of
-//! `tl`: the definitions that contracts cite, and their laws.
+//! What the HTML standard's tokenizer reads of a page: the definitions that contracts cite, and
+//! their laws.
 #![tactic(auto)]
 
+mod balanced_examples;
 mod driven_examples;
 mod examples;
-mod form_examples;
 pub mod laws;
-mod node_examples;
+mod piece_examples;
 mod reference_examples;

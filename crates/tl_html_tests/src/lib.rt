@@ -1,5 +1,5 @@
-//! Worked rows of pages as browsers read them: their tokens, what is written of these, their trees,
-//! and edits of a page in its own bytes.
+//! Worked rows of pages as browsers read them: their tokens, their trees, and edits of a page in
+//! its own bytes.
 #![tactic(auto)]
 
 #[cfg(test)]
@@ -12,8 +12,6 @@ mod balanced_tags;
 mod characters;
 #[cfg(test)]
 mod closed_tags;
-#[cfg(test)]
-mod coded_names;
 #[cfg(test)]
 mod comments;
 #[cfg(test)]
@@ -28,6 +26,8 @@ mod errors;
 mod fragments;
 #[cfg(test)]
 mod keys;
+#[cfg(test)]
+mod lower_names;
 #[cfg(test)]
 mod names;
 #[cfg(test)]
@@ -56,7 +56,3 @@ mod tokens;
 mod tree_sources;
 #[cfg(test)]
 mod trees;
-#[cfg(test)]
-mod written_tags;
-#[cfg(test)]
-mod written_texts;

@@ -1,10 +1,7 @@
-//! Texts and values, and the characters that they say; characters, and how they are escaped.
+//! Texts and values, and the characters that they say.
 
 use crate::answers::is_written;
-use std::alloc::AllocError;
-use tl_text::{
-    escape_text, escape_value, unescape_text, unescape_text_str, unescape_value, unescape_value_str,
-};
+use tl_text::{unescape_text, unescape_value};
 
 // A text or a value, and what it says as a text, and as a value.
 #[rattlefmt::skip]
@@ -42,53 +39,10 @@ static SAID_ROWS: [(&[u8], &[u8], &[u8]); 30] = [
     (b"&#13;\r\n", b"\r\r\n", b"\r\r\n"),
 ];
 
-// Characters, and how they are written as a text, and as a value.
-#[rattlefmt::skip]
-static ESCAPED_ROWS: [(&[u8], &[u8], &[u8]); 5] = [
-    (b"", b"", b""),
-    (b"plain", b"plain", b"plain"),
-    (b"<a href=\"?x&y\">", b"&lt;a href=\"?x&amp;y\">", b"<a href=&quot;?x&amp;y&quot;>"),
-    (b"&amp;", b"&amp;amp;", b"&amp;amp;"),
-    (b"\xC3\xA9'>\0", b"\xC3\xA9'>\0", b"\xC3\xA9'>\0"),
-];
-
 #[test]
 fn references_are_read(rt: HostRuntime) {
     for (source, text, value) in &SAID_ROWS {
         assert!(rt; is_written(unescape_text(rt.alloc(), source), text));
         assert!(rt; is_written(unescape_value(rt.alloc(), source), value));
-    }
-}
-
-#[test]
-fn characters_are_escaped(rt: HostRuntime) {
-    for (characters, text, value) in &ESCAPED_ROWS {
-        assert!(rt; is_written(escape_text(rt.alloc(), characters), text));
-        assert!(rt; is_written(escape_value(rt.alloc(), characters), value));
-    }
-}
-
-// A text or a value in UTF-8, and what it says as a text, and as a value.
-#[rattlefmt::skip]
-static TEXT_ROWS: [(&str, &str, &str); 4] = [
-    ("", "", ""),
-    ("é&eacute;&#233;", "ééé", "ééé"),
-    ("é&eacuteé", "ééé", "ééé"),
-    ("&copy=é<\u{1F600}\"&#x80;", "©=é<\u{1F600}\"€", "&copy=é<\u{1F600}\"€"),
-];
-
-// Whether a call gave this text.
-fn is_text(given: Result<String, AllocError>, text: &str) -> bool {
-    match given {
-        Ok(given) => given.as_str() == text,
-        Err(_) => false,
-    }
-}
-
-#[test]
-fn references_are_read_as_texts(rt: HostRuntime) {
-    for (source, text, value) in &TEXT_ROWS {
-        assert!(rt; is_text(unescape_text_str(rt.alloc(), source), text));
-        assert!(rt; is_text(unescape_value_str(rt.alloc(), source), value));
     }
 }

@@ -6,7 +6,7 @@ use tl_tree::Tree;
 
 // A page, a selector, and the numbers of the elements where it holds.
 #[rattlefmt::skip]
-static ROWS: [(&[u8], &str, &[usize]); 42] = [
+static ROWS: [(&[u8], &str, &[usize]); 56] = [
     (b"<p>a<p>b", "p", &[3, 5]),
     (b"<P>a", "P", &[3]),
     (b"<p>a<p>b", "body > *", &[3, 5]),
@@ -49,6 +49,22 @@ static ROWS: [(&[u8], &str, &[usize]); 42] = [
     (b"<input type=TEXT><svg type=TEXT>", "[type=text]", &[3]),
     (b"<input name=TEXT>", "[name=text]", &[]),
     (b"<input name=TEXT>", "[name=text i]", &[3]),
+    // (but with a flag `s`)
+    (b"<input type=TEXT>", "[type=text s], [type=TExT S]", &[]),
+    (b"<input type=TEXT>", "[type=TEXT s]", &[3]),
+    (b"<input name=TEXT>", "[name=TEXT s]", &[3]),
+    (b"<input name=TEXT>", "[name=text s]", &[]),
+    // (elements are in a namespace, and keys in none but where the parser says so)
+    (b"<p><svg><a>", "*|a, *|P", &[3, 5]),
+    (b"<p><svg><a>", "*|*", &[0, 1, 2, 3, 4, 5]),
+    (b"<p><svg><a>", "|a, |p, |*", &[]),
+    (b"<p><svg><a>", "a:not(|a)", &[5]),
+    (b"<p title=a>", "[|title]", &[3]),
+    (b"<svg xlink:href=a>", "[*|href]", &[3]),
+    (b"<svg xlink:href=a>", "[|href], [*|href=b], [*|hre=a]", &[]),
+    (b"<svg xlink:href=a href=b>", "[*|href=a][*|href=b]", &[3]),
+    (b"<p xlink:href=a>", "[*|href]", &[]),
+    (b"<input type=TEXT>", "[*|TYPE=text][*|type=TEXT s]:not([*|type=text s])", &[3]),
     (b"<ul id='&amp;'><b title='&lt;'>", "#\\& > b[title='<']", &[4]),
     (b"<p a='x y' lang=en-US>", "[a~=y][a^=x][lang|=EN]", &[3]),
     // (what stands in the contents of a template is not of the document)

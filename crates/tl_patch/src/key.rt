@@ -4,7 +4,7 @@ ghost use Rattle.std.specs.Str.{bytes_eq};
 ghost use Rattle.tl_html_parts.specs.Parts.{name_of};
 
 use std::alloc::{AllocError, Global};
-use tl_html_write::lower_name;
+use tl_html_parts::lower_name;
 
 // Whether a key as it stands in a tag is this key.
 pub(crate) fn is_named(alloc: Global, raw: &[u8], key: &[u8]) -> Result<bool, AllocError>

@@ -3,9 +3,8 @@
 use crate::found::Element;
 use std::alloc::{AllocError, Global};
 use tl_html_balance::{OpenTags, Opening, PutIn, TagName};
-use tl_html_parts::{characters, tag_parts};
+use tl_html_parts::{characters, lower_name, tag_parts};
 use tl_html_tokens::{Mode, Token, TokenKind};
-use tl_html_write::lower_name;
 
 // An element that has not ended: its name, and the token that began it.
 #[derive(Clone, Copy)]

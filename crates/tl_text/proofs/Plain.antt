@@ -1,13 +1,11 @@
 -- Runs of bytes that stand for themselves, up to the first one that doesn't.
-use Rattle.std.proofs.Common.{◌≡◌, ℕ, zero, suc, ◌+◌, ◌-◌, ◌<◌, ◌≤◌, Bool, true, false, not, eqb, ◌||◌, ◌==◌, List, [], ◌∷◌, ◌++◌, length, take, drop, take_all, Option, Some, None, get_or, refl, ap, ap₂, sym, ◌∙◌, arith, le_refl, append-nil, append_assoc, if◌then◌else◌}
-use Rattle.std.specs.Prelude.{flat_map}
+use Rattle.std.proofs.Common.{◌≡◌, ℕ, zero, suc, ◌+◌, ◌-◌, ◌<◌, ◌≤◌, Bool, true, false, not, ◌==◌, List, [], ◌∷◌, ◌++◌, length, take, drop, take_all, Some, None, get_or, refl, ap, sym, ◌∙◌, arith, le_refl, append-nil, append_assoc}
 use Rattle.std.specs.List.{list_all}
 use Rattle.std.proofs.lemmas.Bool.{and_from, eqb-true}
-use Rattle.std.proofs.lemmas.List.{at_drop_more, drop_all, take-append-drop}
-use Rattle.memchr.specs.Find.{IsFirstByte, is_byte, is_byte2}
-use Rattle.tl_html_spec.specs.Escapes.{escaped_text, escaped_value, text_escape, value_escape}
+use Rattle.std.proofs.lemmas.List.{at_drop_more, take-append-drop}
+use Rattle.memchr.specs.Find.{IsFirstByte, is_byte}
 use Rattle.tl_html_spec.specs.Unescaped.{or_itself, reference, unescaped}
-use Rattle.tl_html_spec.proofs.Looked.{bytes-plain, is_plain, passes}
+use Rattle.tl_html_spec.proofs.Looked.{bytes-plain, passes}
 
 fails_not : (t : Bool) → ¬ (t ≡ true) → t ≡ false
 fails_not true never = absurd (never refl)
@@ -16,13 +14,6 @@ fails_not false never = refl
 -- a test that the bytes before a place fail
 abbrev FailsBefore : (ℕ → Bool) → List ℕ → ℕ → Type 0
 FailsBefore test s k = (j : ℕ) → j < k → test (get_or s j 0) ≡ false
-
-flat_plain : (test : ℕ → Bool) (e : ℕ → List ℕ) → ((b : ℕ) → test b ≡ false → e b ≡ b ∷ []) → (s : List ℕ) (k : ℕ) → k ≤ length s → FailsBefore test s k →
-    flat_map e s ≡ take k s ++ flat_map e (drop k s)
-flat_plain test e plain s zero h fails = refl
-flat_plain test e plain [] (suc k) h fails = absurd (omega arith)
-flat_plain test e plain (b ∷ s) (suc k) h fails =
-    ap₂ (λ x y. x ++ y) (plain b (fails 0 (omega arith))) (flat_plain test e plain s k (omega arith) (λ j l. fails (suc j) (omega arith)))
 
 all_before : (test : ℕ → Bool) (s : List ℕ) (k : ℕ) → k ≤ length s → FailsBefore test s k → list_all (λ b. not (test b)) (take k s) ≡ true
 all_before test s zero h fails = refl
@@ -35,51 +26,6 @@ pub all_fail : (test : ℕ → Bool) (s : List ℕ) → IsFirstByte test s None 
 all_fail test s none =
     sym (ap (list_all (λ b. not (test b))) (take_all (length s) s (le_refl (length s))))
     ∙ all_before test s (length s) (le_refl (length s)) (λ j l. fails_not (test (get_or s j 0)) (none j (omega arith) l))
-
--- escapes
-
-text_plain : (b : ℕ) → is_byte2 38 60 b ≡ false → text_escape b ≡ b ∷ []
-text_plain b e = here (b == 38) (b == 60) e
-  where
-    here : (x y : Bool) → (x || y) ≡ false → (if x then 38 ∷ 97 ∷ 109 ∷ 112 ∷ 59 ∷ [] else if y then 38 ∷ 108 ∷ 116 ∷ 59 ∷ [] else b ∷ []) ≡ b ∷ []
-    here true y h = cc
-    here false true h = cc
-    here false false h = refl
-
-value_plain : (b : ℕ) → is_byte2 38 34 b ≡ false → value_escape b ≡ b ∷ []
-value_plain b e = here (b == 38) (b == 34) e
-  where
-    here : (x y : Bool) → (x || y) ≡ false → (if x then 38 ∷ 97 ∷ 109 ∷ 112 ∷ 59 ∷ [] else if y then 38 ∷ 113 ∷ 117 ∷ 111 ∷ 116 ∷ 59 ∷ [] else b ∷ []) ≡ b ∷ []
-    here true y h = cc
-    here false true h = cc
-    here false false h = refl
-
-escape_found : (test : ℕ → Bool) (e : ℕ → List ℕ) → ((b : ℕ) → test b ≡ false → e b ≡ b ∷ []) → (o s : List ℕ) (k : ℕ) → IsFirstByte test s (Some k) →
-    o ++ flat_map e s ≡ ((o ++ take k s) ++ e (get_or s k 0)) ++ flat_map e (drop (k + 1) s)
-escape_found test e plain o s k found =
-    let inside = found.0.high in
-    ap (λ x. o ++ x) (flat_plain test e plain s k (omega arith) (λ j l. fails_not (test (get_or s j 0)) (found.0.before j (omega arith) l))
-    ∙ ap (λ x. take k s ++ x) (at_drop_more (flat_map e) s k 0 inside))
-    ∙ sym (append_assoc o (take k s) (e (get_or s k 0) ++ flat_map e (drop (k + 1) s)))
-    ∙ sym (append_assoc (o ++ take k s) (e (get_or s k 0)) (flat_map e (drop (k + 1) s)))
-
-escape_none : (test : ℕ → Bool) (e : ℕ → List ℕ) → ((b : ℕ) → test b ≡ false → e b ≡ b ∷ []) → (s : List ℕ) → IsFirstByte test s None → flat_map e s ≡ s
-escape_none test e plain s none =
-    flat_plain test e plain s (length s) (le_refl (length s)) (λ j l. fails_not (test (get_or s j 0)) (none j (omega arith) l))
-    ∙ ap₂ (λ x y. x ++ flat_map e y) (take_all (length s) s (le_refl (length s))) (drop_all (length s) s (le_refl (length s)))
-    ∙ append-nil s
-
-pub text_found : (o s : List ℕ) (k : ℕ) → IsFirstByte (is_byte2 38 60) s (Some k) → o ++ escaped_text s ≡ ((o ++ take k s) ++ text_escape (get_or s k 0)) ++ escaped_text (drop (k + 1) s)
-text_found = escape_found (is_byte2 38 60) text_escape text_plain
-
-pub text_none : (s : List ℕ) → IsFirstByte (is_byte2 38 60) s None → escaped_text s ≡ s
-text_none = escape_none (is_byte2 38 60) text_escape text_plain
-
-pub value_found : (o s : List ℕ) (k : ℕ) → IsFirstByte (is_byte2 38 34) s (Some k) → o ++ escaped_value s ≡ ((o ++ take k s) ++ value_escape (get_or s k 0)) ++ escaped_value (drop (k + 1) s)
-value_found = escape_found (is_byte2 38 34) value_escape value_plain
-
-pub value_none : (s : List ℕ) → IsFirstByte (is_byte2 38 34) s None → escaped_value s ≡ s
-value_none = escape_none (is_byte2 38 34) value_escape value_plain
 
 -- references
 

@@ -1,5 +1,5 @@
 //! The characters that a text or a value says.
-ghost use Rattle.std.specs.Prelude.{◌≡◌, ◌≤◌, ◌++◌, length, string_bytes, IfOk, OnOk};
+ghost use Rattle.std.specs.Prelude.{◌≡◌, ◌≤◌, ◌++◌, length, IfOk, OnOk};
 ghost use Rattle.tl_html_spec.specs.Unescaped.{or_itself, reference, unescaped, unescaped_text, unescaped_value};
 
 use crate::reference::reference_at;
@@ -56,20 +56,4 @@ pub fn unescape_value(alloc: Global, value: &[u8]) -> Result<Vec<u8>, AllocError
     ensures { IfOk result (λ characters. characters.items ≡ unescaped_value value.now) }
 {
     unescape(alloc, true, value)
-}
-
-/// The same of a text in UTF-8, which says UTF-8: `unescaped_is_utf8` of `tl_html_spec`.
-pub fn unescape_text_str(alloc: Global, text: &str) -> Result<String, AllocError>
-    ensures { IfOk result (λ characters. string_bytes characters ≡ unescaped_text text.now) }
-{
-    let characters = unescape_text(alloc, text.as_bytes())?;
-    Ok(unsafe { String::from_utf8_unchecked(characters) })
-}
-
-/// And of a value.
-pub fn unescape_value_str(alloc: Global, value: &str) -> Result<String, AllocError>
-    ensures { IfOk result (λ characters. string_bytes characters ≡ unescaped_value value.now) }
-{
-    let characters = unescape_value(alloc, value.as_bytes())?;
-    Ok(unsafe { String::from_utf8_unchecked(characters) })
 }

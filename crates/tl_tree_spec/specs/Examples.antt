@@ -1,9 +1,9 @@
 -- Words for worked rows. No contract cites them.
 use Prim.Native.String.{String}
-use Rattle.std.specs.Prelude.{ℕ, Bool, List, [], ◌∷◌, Option, option_map, codes}
+use Rattle.std.specs.Prelude.{ℕ, Bool, List, [], ◌∷◌, ◌++◌, Option, option_map, flat_map, codes}
 use Rattle.tl_spec.specs.Tree.Forest.{none, tag, text}
-use Rattle.tl_html_spec.specs.HtmlTokenizer.{tokens_in_page}
-use Rattle.tl_html_spec.specs.Written.{written}
+use Rattle.tl_html_spec.specs.Escapes.{escaped_value, text_escape}
+use Rattle.tl_html_spec.specs.HtmlTokenizer.{HtmlAttribute, HtmlToken, Character, StartTag, EndTag, CommentToken, DoctypeToken, tokens_in_page}
 use Rattle.tl_tree_spec.specs.HtmlForest.{HtmlForest, html_tokens_of}
 use Rattle.tl_tree_spec.specs.HtmlTreeBuilder.{html_trees, html_trees_without_search}
 use Rattle.tl_tree_spec.specs.Stays.{stay}
@@ -11,6 +11,20 @@ use Rattle.tl_tree_spec.specs.Stays.{stay}
 -- the trees of a text as the children of a `div`
 abbrev pub trees : String → Option HtmlForest
 trees page = html_trees (tokens_in_page (codes page))
+
+abbrev written_attribute : HtmlAttribute → List ℕ
+written_attribute a = 32 ∷ (a.0 ++ (codes "=\"" ++ (escaped_value a.1 ++ codes "\"")))
+
+abbrev written_token : HtmlToken → List ℕ
+written_token (Character b) = text_escape b
+written_token (StartTag name attributes closes) =
+    60 ∷ (name ++ (flat_map written_attribute attributes ++ codes ">"))
+written_token (EndTag name) = codes "</" ++ (name ++ codes ">")
+written_token (CommentToken bytes) = codes "<!--" ++ (bytes ++ codes "-->")
+written_token DoctypeToken = codes "<!doctype html>"
+
+abbrev written : List HtmlToken → List ℕ
+written tokens = flat_map written_token tokens
 
 -- these trees written again: what `innerHTML` gives back
 abbrev pub written_trees : HtmlForest → List ℕ

@@ -4,7 +4,7 @@ use Rattle.std.specs.List.{list_all, onto_first, slice_split}
 use Rattle.std.proofs.lemmas.Bool.{and_parts, and_from}
 use Rattle.std.proofs.lemmas.List.Folds.{list_all-append}
 use Rattle.tl_spec.specs.Lex.ByteClass.{less, quote}
-use Rattle.tl_extract.specs.Split.{pieces}
+use Rattle.uses.specs.Split.{pieces}
 use Rattle.uses.specs.Fields.{Fields, ampersand, closing, escape, escape_of, opening, part_from, part_to, part_with, parts_with, text_with, value_of}
 
 module _ (p : ℕ → Bool) where

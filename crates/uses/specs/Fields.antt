@@ -8,7 +8,7 @@ use Rattle.tl_spec.specs.Lex.ByteClass.{less, quote}
 use Rattle.tl_spec.specs.Tree.Document.{Document, Node, Tag, Raw, Comment}
 use Rattle.tl_spec.specs.Tree.Forest.{Forest, none, text, comment, tag, PlainTag}
 use Rattle.tl_spec.specs.Tree.Inline.{pair_image, map_image}
-use Rattle.tl_extract.specs.Split.{pieces}
+use Rattle.uses.specs.Split.{pieces}
 use Rattle.uses.specs.declared.field.Field.{Field}
 
 -- names with their values

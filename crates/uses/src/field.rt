@@ -1,7 +1,7 @@
 //! Texts with fields in the place of their names.
 ghost use Rattle.std.specs.Prelude.{◌≡◌, ◌<◌, ◌∷◌, ◌++◌, length, IfOk, IfSome, OnOk};
 ghost use Rattle.std.specs.Option.{option_copied};
-ghost use Rattle.tl_extract.specs.Split.{pieces, remaining_pieces};
+ghost use Rattle.uses.specs.Split.{pieces, remaining_pieces};
 ghost use Rattle.uses.specs.Fields.{escape, escape_of, fields_of, opening, part_with, text_with, value_of};
 
 use std::alloc::{AllocError, Global};

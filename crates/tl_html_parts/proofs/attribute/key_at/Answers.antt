@@ -10,7 +10,7 @@ use Rattle.tl_html_tokens.proofs.InTag.{past_key}
 use Rattle.tl_html_parts.specs.Inner.Tail.{begins_key}
 use Rattle.tl_html_parts.specs.Bytes.{is_kept_in_name, is_key_byte}
 use Rattle.tl_html_parts.specs.Parts.{name_of}
-use Rattle.tl_html_parts.proofs.Kept.{name-kept}
+use Rattle.tl_html_parts.proofs.Kept.{name_kept}
 use Rattle.tl_html_parts.proofs.Splits.{key_inside, key_part, key_told}
 use Rattle.tl_html_parts.proofs.attribute.key_at.Goals as goal
 
@@ -28,7 +28,7 @@ returns-then-more-clause-key c =
           let rest : list_all is_kept_in_name w ≡ true = ap (λ n. list_all is_kept_in_name (take (end - n) (drop n t))) (sym c.word_at-more.ensures.start) ∙ c.word_at-more.ensures.plain c.if-more.true in
           let part = key_part t at end (key_inside t at c.requires) order in
           ap name_of part
-          ∙ name-kept (get_or t at 0 ∷ w) (and_from (is_kept_in_name (get_or t at 0)) (list_all is_kept_in_name w) (sym c.is_kept_in_name.ensures ∙ kept) rest)
+          ∙ name_kept (get_or t at 0 ∷ w) (and_from (is_kept_in_name (get_or t at 0)) (list_all is_kept_in_name w) (sym c.is_kept_in_name.ensures ∙ kept) rest)
           ∙ sym part;
     }
 

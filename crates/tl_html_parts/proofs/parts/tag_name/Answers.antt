@@ -4,7 +4,7 @@ use Rattle.tl_spec.specs.Lex.Grammar.{IsRun}
 use Rattle.tl_html_parts.specs.Bytes.{is_name_byte}
 use Rattle.tl_html_parts.specs.Places.{part_in}
 use Rattle.tl_html_parts.specs.Inner.Tail.{past_opening}
-use Rattle.tl_html_parts.proofs.Kept.{name-kept}
+use Rattle.tl_html_parts.proofs.Kept.{name_kept}
 use Rattle.tl_html_parts.proofs.Rests.{Rest, rest-there}
 use Rattle.tl_html_parts.proofs.Tags.{end_told, start_told}
 use Rattle.tl_html_parts.proofs.parts.tag_name.Goals as goal
@@ -25,7 +25,7 @@ returns c =
       part = record {
         order = omega arith;
         within = c.word_at.ensures.within;
-        plain = λ kept. name-kept name (c.word_at.ensures.plain kept);
+        plain = λ kept. name_kept name (c.word_at.ensures.plain kept);
       };
       start_told = λ attributes closes has mode tokens is start. start_told mode bytes name rest attributes closes tokens run has is start;
       end_told = λ mode tokens is end. end_told mode bytes name rest some.attributes some.closes tokens run some.has is end;

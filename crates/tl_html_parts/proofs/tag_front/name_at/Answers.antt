@@ -8,7 +8,7 @@ use Rattle.tl_html_parts.specs.Inner.Tail.{begins_with}
 use Rattle.tl_html_parts.specs.Parts.{name_of}
 use Rattle.tl_html_parts.specs.Places.{IsPart, part_in}
 use Rattle.tl_html_parts.specs.declared.place.PartPlace.{PartPlace}
-use Rattle.tl_html_parts.proofs.Kept.{name-kept}
+use Rattle.tl_html_parts.proofs.Kept.{name_kept}
 use Rattle.tl_html_parts.proofs.Naming.{end_in, end_told, start_in, start_told}
 use Rattle.tl_html_parts.proofs.Runs.{named}
 use Rattle.tl_html_parts.proofs.Tags.{named_told}
@@ -53,7 +53,7 @@ returns c =
     let order = word.order in
     let at = word.start in
     let less : begins_with 60 (drop start t) ≡ true = sym c.is_at.ensures ∙ c.if-not-is_at.false in
-    let part : IsPart name_of t p = record { order = omega arith; within = word.within; plain = λ kept. name-kept (part_in t p) (word.plain kept) } in
+    let part : IsPart name_of t p = record { order = omega arith; within = word.within; plain = λ kept. name_kept (part_in t p) (word.plain kept) } in
     let letter : is_ascii_alphabetic (get_or t c.if-is_end.first 0) ≡ true = sym c.is_ascii_alphabetic.ensures.value ∙ c.if-not-is_ascii_alphabetic.false in
     let inside = c.if-first-page.false in
     elim c.if-is_end.branch [

@@ -1,5 +1,5 @@
 use Rattle.std.proofs.Common.{sym}
-use Rattle.tl_extract.proofs.Splits.{split-nowhere, split-there}
+use Rattle.uses.proofs.Splits.{split-nowhere, split-there}
 use Rattle.uses.specs.Fields.{opening}
 use Rattle.uses.proofs.field.split_at_brace.Goals as goal
 

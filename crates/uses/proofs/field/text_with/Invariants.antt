@@ -1,6 +1,6 @@
 use Rattle.std.proofs.Common.{◌≡◌, ◌++◌, ◌+◌, flat_map, length}
 use Rattle.std.specs.Option.{option_map_or}
-use Rattle.tl_extract.specs.Split.{remaining_pieces}
+use Rattle.uses.specs.Split.{remaining_pieces}
 use Rattle.uses.specs.Fields.{fields_of, opening, part_with, text_with}
 use Rattle.uses.proofs.field.text_with.Given as goal
 

@@ -1,7 +1,0 @@
-use Rattle.std.proofs.Common.{◌≡◌, ◌++◌, flat_map, take}
-use Rattle.tl_extract.specs.Notation.{string_byte}
-use Rattle.tl_extract.proofs.notation.add_string_bytes.Given as goal
-
--- what was added are the bytes so far
-abbrev pub invariant-loop-byte : goal.invariant-loop-byte
-invariant-loop-byte l = l.out.items ≡ l.initial.out.items ++ flat_map string_byte (take l.byte-index l.bytes)

@@ -1,6 +1,0 @@
-pub mod KeySets
-pub mod Names
-pub mod Repeats
-pub mod Texts
-pub mod Values
-pub mod Uncoded

@@ -1,3 +1,0 @@
--- What the proofs and private functions of this crate cite, and no public clause.
-pub mod Values
-pub mod Attributes

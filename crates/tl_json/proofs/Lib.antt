@@ -1,4 +1,0 @@
-mod Floats
-mod Said
-mod Texts
-pub mod Walked

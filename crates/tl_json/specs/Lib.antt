@@ -1,4 +1,0 @@
-pub mod Objects
-pub mod Tree
-pub mod Listing
-pub mod Left
