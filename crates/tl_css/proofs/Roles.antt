@@ -10,12 +10,12 @@ use Rattle.tl_css.specs.declared.text.role.Role.{Role}
 use Rattle.tl_css.specs.declared.text.role.PseudoClass.{PseudoClass}
 use Rattle.tl_css.specs.declared.text.role.PseudoClass.TheVariants as p
 use Rattle.tl_css.specs.Selector.{Css}
-use Rattle.tl_css.specs.Read.{Read, ◌>>=◌}
+use Rattle.tl_css.specs.Read.{Read, ◌>>=◌, after_byte}
 use Rattle.tl_css.specs.Lexical.{begins, begins_name, name_at, lower_run, is_word, gap_at}
 use Rattle.tl_css.specs.Formula.{formula_at}
 use Rattle.tl_css.specs.Attribute.{attribute_at}
 use Rattle.tl_css.specs.PseudoClass.{Simple, Whole, Opens, plain_class, nth_class, list_class, or_else, pseudo_class, begins_argument, whole_at, is_sibling, after_formula, nth_at, argument_at, class_at, class_by, pseudo_at}
-use Rattle.tl_css.specs.Item.{simple_at, first_at, is_top}
+use Rattle.tl_css.specs.Item.{simple_at, star_by, type_at, first_at, is_top}
 use Rattle.tl_css.proofs.Leaf.{simple_by, SimpleReads}
 
 -- what is read has this property, if it is read
@@ -125,10 +125,15 @@ simple_inner (b ∷ s) = if_both Fine (b == byte ":") _ _ (λ _. pseudo_inner (b
     (λ _. if_both Fine (b == byte ".") _ _ (λ _. bound IsInner (name_at s) _ (λ _. tt))
     (λ _. if_both Fine (b == byte "&") _ _ (λ _. tt) (λ _. tt)))))
 
+star_inner : (s : List ℕ) (o : Option (List ℕ)) → Fine (star_by s o)
+star_inner s None = tt
+star_inner s (Some rest) = bound IsInner (type_at rest) _ (λ _. tt)
+
 first_inner : (s : List ℕ) → Fine (first_at s)
 first_inner [] = tt
-first_inner (b ∷ s) = if_both Fine (b == byte "*") _ _ (λ _. tt)
-    (λ _. if_both Fine (begins_name (b ∷ s)) _ _ (λ _. tt) (λ _. simple_inner (b ∷ s)))
+first_inner (b ∷ s) = if_both Fine (b == byte "*") _ _ (λ _. star_inner s (after_byte (byte "|") s))
+    (λ _. if_both Fine (b == byte "|") _ _ (λ _. bound IsInner (type_at s) _ (λ _. tt))
+    (λ _. if_both Fine (begins_name (b ∷ s)) _ _ (λ _. tt) (λ _. simple_inner (b ∷ s))))
 
 by_which : (first : Bool) (s : List ℕ) → Fine (simple_by first s)
 by_which true s = first_inner s

@@ -13,7 +13,9 @@ use Rattle.tl_css.specs.declared.error.Cause.TheVariants.{Unclosed}
 use Rattle.tl_css.specs.declared.selector.Formula.{Formula}
 use Rattle.tl_css.specs.declared.selector.Link.{Link}
 use Rattle.tl_css.specs.declared.selector.Way.{Way}
+use Rattle.tl_css.specs.declared.selector.Case.{Case}
 use Rattle.tl_css.specs.declared.selector.Op.{Op}
+use Rattle.tl_css.specs.declared.selector.Space.{Space}
 use Rattle.tl_css.specs.declared.text.role.PseudoClass.{PseudoClass}
 use Rattle.tl_css.specs.declared.text.role.PseudoClass.TheVariants as p
 use Rattle.tl_css.specs.Selector.{Css, Ident, Test, Value}
@@ -21,9 +23,9 @@ use Rattle.tl_css.specs.Bytes.{decimal_number}
 use Rattle.tl_css.specs.Read.{Read, wrong, ◌>>=◌, after_byte}
 use Rattle.tl_css.specs.Lexical.{part_at, run_at, begins, begins_name, name_at, lower_run, is_word, begins_comment, gap_part_at, gap_at}
 use Rattle.tl_css.specs.Formula.{largest, digits_by, digits_at, is_n, is_sign, sign_at, with_sign, begins_keyword, end_formula, after_n, terms_at, formula_at}
-use Rattle.tl_css.specs.Attribute.{begins_namespace, key_at, op_of, op_by, op_at, string_by, value_at, flag_at, close_at, match_at, after_key, attribute_at}
+use Rattle.tl_css.specs.Attribute.{starred_by, space_at, key_at, op_of, op_by, op_at, string_by, value_at, flag_at, close_at, match_at, after_key, attribute_at}
 use Rattle.tl_css.specs.PseudoClass.{Simple, pseudo_class, begins_argument, whole_at, is_sibling, after_formula, nth_at, argument_at, class_at, class_by, pseudo_at}
-use Rattle.tl_css.specs.Item.{simple_at, first_at}
+use Rattle.tl_css.specs.Item.{simple_at, star_by, type_at, first_at}
 use Rattle.tl_css.proofs.Runs.{part_shrinks, gap_shrinks, run_some}
 use Rattle.tl_css.specs.SimpleGrammar.{GapStands}
 use Rattle.tl_css.proofs.Leaf.{simple_by, SimpleReads}
@@ -75,8 +77,21 @@ after_byte_le : (b : ℕ) (s : List ℕ) → IfSome (after_byte b s) (λ rest. l
 after_byte_le b [] = tt
 after_byte_le b (c ∷ s) = if_both (λ (o : Option (List ℕ)). IfSome o (λ rest. length rest ≤ length (c ∷ s))) (c == b) _ _ (λ _. omega arith) (λ _. tt)
 
+starred_le : (n b : ℕ) (s : List ℕ) (o : Option (List ℕ)) → length (b ∷ s) ≤ n → IfSome o (λ rest. length rest ≤ length s)
+    → length (starred_by (b ∷ s) o).1 ≤ n
+starred_le n b s None h le = h
+starred_le n b s (Some rest) h le = omega arith
+
+space_le : (n : ℕ) (s : List ℕ) → length s ≤ n → length (space_at s).1 ≤ n
+space_le n [] h = h
+space_le n (b ∷ s) h =
+    let less : length s ≤ n = omega arith in
+    if_both (λ (p : Space × List ℕ). length p.1 ≤ n) (b == byte "|") _ _ (λ _. less)
+    (λ _. if_both (λ (p : Space × List ℕ). length p.1 ≤ n) (b == byte "*") _ _
+    (λ _. starred_le n b s (after_byte (byte "|") s) h (after_byte_le (byte "|") s)) (λ _. h))
+
 key_le : (n : ℕ) (s : List ℕ) → length s ≤ n → Le n (key_at s)
-key_le n s h = if_both (λ (r : Read Ident). Le n r) (begins_namespace s) _ _ (λ _. tt) (λ _. le_bind n n (name_at s) _ (name_within n s h) (λ p le. le))
+key_le n s h = le_bind n n (name_at (space_at s).1) _ (name_within n (space_at s).1 (space_le n s h)) (λ p le. le)
 
 op_by_le : (n b : ℕ) (s : List ℕ) (o : Option Op) (r : Option (List ℕ)) → length s ≤ n → IfSome r (λ rest. length rest ≤ length s) → Le n (op_by b s o r)
 op_by_le n b s (Some op) (Some rest) h le = omega arith
@@ -112,9 +127,9 @@ flag_le : (n : ℕ) (s : List ℕ) → length s ≤ n → Le n (flag_at s)
 flag_le n s h =
     let name = run_le None s in
     let some : length (run_at None s).1 ≤ n = omega arith in
-    if_both (λ (r : Read Bool). Le n r) (begins_name s) _ _
-    (λ _. if_both (λ (r : Read Bool). Le n r) (is_word s (codes "i")) _ _ (λ _. some)
-    (λ _. if_both (λ (r : Read Bool). Le n r) (is_word s (codes "s")) _ _ (λ _. some) (λ _. tt)))
+    if_both (λ (r : Read Case). Le n r) (begins_name s) _ _
+    (λ _. if_both (λ (r : Read Case). Le n r) (is_word s (codes "i")) _ _ (λ _. some)
+    (λ _. if_both (λ (r : Read Case). Le n r) (is_word s (codes "s")) _ _ (λ _. some) (λ _. tt)))
     (λ _. h)
 
 close_le : (n opened : ℕ) (s : List ℕ) (t : Test) → length s ≤ n → Le n (close_at opened s >>= λ rest. Ok (t, rest))
@@ -123,16 +138,16 @@ close_le n opened (b ∷ s) t h =
     let less : length s ≤ n = omega arith in
     if_both (λ (r : Result (List ℕ) Wrong). Le n (r >>= λ rest. Ok (t, rest))) (b == byte "]") _ _ (λ _. less) (λ _. tt)
 
-match_le : (n opened : ℕ) (key : Ident) (op : Op) (s : List ℕ) → length s ≤ n → Le n (match_at opened key op s)
+match_le : (n opened : ℕ) (key : Space × Ident) (op : Op) (s : List ℕ) → length s ≤ n → Le n (match_at opened key op s)
 match_le n opened key op s h =
     le_bind n n (gap_at s) _ (gap_within n s h) (λ a ha.
     le_bind n n (value_at opened a.1) _ (value_le n opened a.1 ha) (λ value hv.
     le_bind n n (gap_at value.1) _ (gap_within n value.1 hv) (λ b hb.
-    le_bind n n (flag_at b.1) _ (flag_le n b.1 hb) (λ folds hf.
-    le_bind n n (gap_at folds.1) _ (gap_within n folds.1 hf) (λ c hc.
-    close_le n opened c.1 (Value key op value.0 folds.0) hc)))))
+    le_bind n n (flag_at b.1) _ (flag_le n b.1 hb) (λ case hf.
+    le_bind n n (gap_at case.1) _ (gap_within n case.1 hf) (λ c hc.
+    close_le n opened c.1 (Value key.0 key.1 op value.0 case.0) hc)))))
 
-after_key_le : (n opened : ℕ) (key : Ident) (s : List ℕ) → length s ≤ n → Le n (after_key opened key s)
+after_key_le : (n opened : ℕ) (key : Space × Ident) (s : List ℕ) → length s ≤ n → Le n (after_key opened key s)
 after_key_le n opened key [] h = tt
 after_key_le n opened key (b ∷ s) h =
     let less : length s ≤ n = omega arith in
@@ -237,12 +252,24 @@ simple_le b s =
     (λ _. if_both (λ (r : Read Simple). Le n r) (b == byte ".") _ _ (λ _. le_bind n n (name_at s) _ (name_within n s same) (λ p le. le))
     (λ _. if_both (λ (r : Read Simple). Le n r) (b == byte "&") _ _ (λ _. same) (λ _. tt)))))
 
+type_le : (n : ℕ) (s : List ℕ) → length s ≤ n → Le n (type_at s)
+type_le n [] h = tt
+type_le n (b ∷ s) h =
+    let less : length s ≤ n = omega arith in
+    if_both (λ (r : Read Test). Le n r) (b == byte "*") _ _ (λ _. less) (λ _. le_bind n n (name_at (b ∷ s)) _ (name_within n (b ∷ s) h) (λ p le. le))
+
+star_le : (n : ℕ) (s : List ℕ) (o : Option (List ℕ)) → length s ≤ n → IfSome o (λ rest. length rest ≤ length s) → Le n (star_by s o)
+star_le n s None h le = h
+star_le n s (Some rest) h le = le_bind n n (type_at rest) _ (type_le n rest (omega arith)) (λ p less. less)
+
 first_le : (b : ℕ) (s : List ℕ) → Le (length s) (first_at (b ∷ s))
 first_le b s =
-    let same : length s ≤ length s = omega arith in
-    if_both (λ (r : Read Simple). Le (length s) r) (b == byte "*") _ _ (λ _. same)
-    (λ _. if_both (λ (r : Read Simple). Le (length s) r) (begins_name (b ∷ s)) _ _
-    (λ e. let less = run_lt (b ∷ s) e in let le : length (run_at None (b ∷ s)).1 ≤ length s = omega arith in le) (λ _. simple_le b s))
+    let n = length s in
+    let same : length s ≤ n = omega arith in
+    if_both (λ (r : Read Simple). Le n r) (b == byte "*") _ _ (λ _. star_le n s (after_byte (byte "|") s) same (after_byte_le (byte "|") s))
+    (λ _. if_both (λ (r : Read Simple). Le n r) (b == byte "|") _ _ (λ _. le_bind n n (type_at s) _ (type_le n s same) (λ p le. le))
+    (λ _. if_both (λ (r : Read Simple). Le n r) (begins_name (b ∷ s)) _ _
+    (λ e. let less = run_lt (b ∷ s) e in let le : length (run_at None (b ∷ s)).1 ≤ n = omega arith in le) (λ _. simple_le b s)))
 
 by_which_le : (first : Bool) (b : ℕ) (s : List ℕ) → Le (length s) (simple_by first (b ∷ s))
 by_which_le true b s = first_le b s

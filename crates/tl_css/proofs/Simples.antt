@@ -13,7 +13,11 @@ use Rattle.tl_css.specs.declared.selector.Anchor.TheVariants.{Scope}
 use Rattle.tl_css.specs.declared.selector.Formula.{Formula}
 use Rattle.tl_css.specs.declared.selector.Link.{Link}
 use Rattle.tl_css.specs.declared.selector.Link.TheVariants.{Parent, Sibling, Twin}
+use Rattle.tl_css.specs.declared.selector.Case.{Case}
+use Rattle.tl_css.specs.declared.selector.Case.TheVariants.{Unsaid, Folded, Exact}
 use Rattle.tl_css.specs.declared.selector.Op.{Op}
+use Rattle.tl_css.specs.declared.selector.Space.{Space}
+use Rattle.tl_css.specs.declared.selector.Space.TheVariants.{Bare, Every}
 use Rattle.tl_css.specs.declared.selector.Way.{Way}
 use Rattle.tl_css.specs.declared.text.role.Role.{Role}
 use Rattle.tl_css.specs.declared.text.role.Role.TheVariants.{NthOf}
@@ -23,10 +27,10 @@ use Rattle.tl_css.specs.Selector.{Css, Ident, ident_of, Test, Any, Is, Name, Val
 use Rattle.tl_css.specs.Read.{Read, wrong, wrong_at, ◌>>=◌, after_byte}
 use Rattle.tl_css.specs.Lexical.{part_at, run_at, begins, begins_name, name_at, lower_run, is_word, gap_at}
 use Rattle.tl_css.specs.Formula.{formula_at}
-use Rattle.tl_css.specs.Attribute.{op_of, op_by, begins_namespace, key_at, op_at, string_by, value_at, flag_at, close_at, match_at, after_key, attribute_at}
-use Rattle.tl_css.specs.PseudoClass.{Simple, Whole, Opens, outermost, pseudo_class, begins_argument, whole_at, is_sibling, after_formula, nth_at, argument_at, class_at, class_by, pseudo_at}
-use Rattle.tl_css.specs.Item.{simple_at, first_at}
-use Rattle.tl_css.specs.SimpleGrammar.{GapStands, NameStands, WordStands, word, ValueStands, bare, quoted, FlagStands, no_flag, folds, exact, AttributeStands, key, value, PseudoStands, edge_class, only_class, anchor_class, empty_class, nth_class, ListBegins, list_class, of_class, SimpleStands, any, type, nesting, id, class, attribute, pseudo}
+use Rattle.tl_css.specs.Attribute.{op_of, op_by, starred_by, space_at, key_at, op_at, string_by, value_at, flag_at, close_at, match_at, after_key, attribute_at}
+use Rattle.tl_css.specs.PseudoClass.{Simple, Whole, Opens, nowhere, outermost, pseudo_class, begins_argument, whole_at, is_sibling, after_formula, nth_at, argument_at, class_at, class_by, pseudo_at}
+use Rattle.tl_css.specs.Item.{simple_at, star_by, type_at, first_at}
+use Rattle.tl_css.specs.SimpleGrammar.{GapStands, NameStands, WordStands, word, ValueStands, bare, quoted, FlagStands, no_flag, folds, exact, KeyStands, plain_key, bare_space, every_space, AttributeStands, key, value, PseudoStands, edge_class, only_class, anchor_class, empty_class, nth_class, ListBegins, list_class, of_class, TypeStands, any_type, named_type, begins_bar, SimpleStands, any, type, every_type, bare_type, nesting, id, class, attribute, pseudo}
 use Rattle.std.proofs.lemmas.Slice.Eq.{bytes_eq-Decides}
 use Rattle.std.specs.Cmp.{unsigned_Decides}
 use Rattle.std.proofs.Common.{arith}
@@ -86,18 +90,33 @@ flag_word : (s text : List ℕ) → begins_name s ≡ true → is_word s text �
 flag_word s text n w = subst (λ (own : List ℕ). WordStands s own (run_at None s).1) (same_word s text w) (word_stands s n)
 
 flag_reads : (s : List ℕ) → Reads (FlagStands s) (flag_at s)
-flag_reads s = if_both (λ (r : Read Bool). Reads (FlagStands s) r) (begins_name s) _ _
-    (λ n. if_both (λ (r : Read Bool). Reads (FlagStands s) r) (is_word s (codes "i")) _ _ (λ w. folds (flag_word s (codes "i") n w))
-    (λ _. if_both (λ (r : Read Bool). Reads (FlagStands s) r) (is_word s (codes "s")) _ _ (λ w. exact (flag_word s (codes "s") n w)) (λ _. tt)))
+flag_reads s = if_both (λ (r : Read Case). Reads (FlagStands s) r) (begins_name s) _ _
+    (λ n. if_both (λ (r : Read Case). Reads (FlagStands s) r) (is_word s (codes "i")) _ _ (λ w. folds (flag_word s (codes "i") n w))
+    (λ _. if_both (λ (r : Read Case). Reads (FlagStands s) r) (is_word s (codes "s")) _ _ (λ w. exact (flag_word s (codes "s") n w)) (λ _. tt)))
     (λ none. no_flag none)
 
--- a name or a key stands
-data KeyStands : List ℕ → Ident → List ℕ → Type 0 where
-  key_stands : {s name rest : List ℕ} → NameStands s name rest → KeyStands s (ident_of name) rest
+-- a key stands
+data KeyIs : List ℕ → Space × Ident → List ℕ → Type 0 where
+  key_is : {s name rest : List ℕ} {space : Space} → KeyStands s space name rest → KeyIs s (space, ident_of name) rest
 
-key_reads : (s : List ℕ) → Reads (KeyStands s) (key_at s)
-key_reads s = if_both (λ (r : Read Ident). Reads (KeyStands s) r) (begins_namespace s) _ _ (λ _. tt)
-    (λ _. reads_bind (KeyStands s) (name_at s) _ (λ name is. key_stands is))
+abbrev keyed : Space × List ℕ → Read (Space × Ident)
+keyed p = name_at p.1 >>= λ name. Ok ((p.0, ident_of name.0), name.1)
+
+star_key : (b : ℕ) (s : List ℕ) (o : Option (List ℕ)) → (b == byte "*") ≡ true → after_byte (byte "|") s ≡ o → Reads (KeyIs (b ∷ s)) (keyed (starred_by (b ∷ s) o))
+star_key b s None e is = reads_bind (KeyIs (b ∷ s)) (name_at (b ∷ s)) _ (λ name h. key_is (plain_key h))
+star_key b s (Some rest) e is =
+    let front : b ∷ s ≡ byte "*" ∷ byte "|" ∷ rest =
+    ap (λ (c : ℕ). c ∷ s) (eqb-true b (byte "*") e) ∙ ap (λ (t : List ℕ). byte "*" ∷ t) (after_byte_is (byte "|") s rest is) in
+    subst (λ (t : List ℕ). Reads (KeyIs t) (keyed (Every, rest))) (sym front)
+    (reads_bind (KeyIs (byte "*" ∷ byte "|" ∷ rest)) (name_at rest) _ (λ name h. key_is (every_space h)))
+
+key_reads : (s : List ℕ) → Reads (KeyIs s) (key_at s)
+key_reads [] = tt
+key_reads (b ∷ s) = if_both (λ (p : Space × List ℕ). Reads (KeyIs (b ∷ s)) (keyed p)) (b == byte "|") _ _
+    (λ e. subst (λ (c : ℕ). Reads (KeyIs (c ∷ s)) (keyed (Bare, s))) (sym (eqb-true b (byte "|") e))
+    (reads_bind (KeyIs (byte "|" ∷ s)) (name_at s) _ (λ name h. key_is (bare_space h))))
+    (λ _. if_both (λ (p : Space × List ℕ). Reads (KeyIs (b ∷ s)) (keyed p)) (b == byte "*") _ _ (λ e. star_key b s (after_byte (byte "|") s) e refl)
+    (λ _. reads_bind (KeyIs (b ∷ s)) (name_at (b ∷ s)) _ (λ name h. key_is (plain_key h))))
 
 close_reads : (P : Test → List ℕ → Type 0) (opened : ℕ) (s : List ℕ) (test : Test) → ((rest : List ℕ) → s ≡ byte "]" ∷ rest → P test rest)
     → Reads P (close_at opened s >>= λ rest. Ok (test, rest))
@@ -105,34 +124,34 @@ close_reads P opened [] test h = tt
 close_reads P opened (b ∷ s) test h = if_both (λ (r : Result (List ℕ) Wrong). Reads P (r >>= λ rest. Ok (test, rest))) (b == byte "]") _ _
     (λ e. h s (ap (λ (b : ℕ). b ∷ s) (eqb-true b (byte "]") e))) (λ _. tt)
 
-match_reads : (opened : ℕ) (s a own b c d : List ℕ) (t u : Bool) (op : Op) → GapStands s t a → NameStands a own b → GapStands b u c → op_at c ≡ Ok (op, d)
-    → Reads (AttributeStands s) (match_at opened (ident_of own) op d)
-match_reads opened s a own b c d t u op gap name after is =
+match_reads : (opened : ℕ) (s a own b c d : List ℕ) (t u : Bool) (space : Space) (op : Op) → GapStands s t a → KeyStands a space own b → GapStands b u c
+    → op_at c ≡ Ok (op, d) → Reads (AttributeStands s) (match_at opened (space, ident_of own) op d)
+match_reads opened s a own b c d t u space op gap name after is =
     reads_bind (AttributeStands s) (gap_at d) _ (λ e he.
     reads_then (ValueStands e.1) (AttributeStands s) (value_at opened e.1) _ (value_reads opened e.1) (λ f hf.
     reads_bind (AttributeStands s) (gap_at f.1) _ (λ g hg.
     reads_then (FlagStands g.1) (AttributeStands s) (flag_at g.1) _ (flag_reads g.1) (λ h hh.
     reads_bind (AttributeStands s) (gap_at h.1) _ (λ k hk.
-    close_reads (AttributeStands s) opened k.1 (Value (ident_of own) op f.0 h.0) (λ rest close.
+    close_reads (AttributeStands s) opened k.1 (Value space (ident_of own) op f.0 h.0) (λ rest close.
     value gap name after is he hf hg hh k.0 (subst (λ (v : List ℕ). GapStands h.1 k.0 v) close hk)))))))
 
-after_key_reads : (opened : ℕ) (s a own b c : List ℕ) (t u : Bool) → GapStands s t a → NameStands a own b → GapStands b u c
-    → Reads (AttributeStands s) (after_key opened (ident_of own) c)
-after_key_reads opened s a own b [] t u gap name after = tt
-after_key_reads opened s a own b (c ∷ rest) t u gap name after =
+after_key_reads : (opened : ℕ) (s a own b c : List ℕ) (t u : Bool) (space : Space) → GapStands s t a → KeyStands a space own b → GapStands b u c
+    → Reads (AttributeStands s) (after_key opened (space, ident_of own) c)
+after_key_reads opened s a own b [] t u space gap name after = tt
+after_key_reads opened s a own b (c ∷ rest) t u space gap name after =
     if_both (λ (r : Read Test). Reads (AttributeStands s) r) (c == byte "]") _ _
     (λ e. key gap name (subst (λ (c : ℕ). GapStands b u (c ∷ rest)) (eqb-true c (byte "]") e) after))
-    (λ _. reads_bind (AttributeStands s) (op_at (c ∷ rest)) _ (λ op is. match_reads opened s a own b (c ∷ rest) op.1 t u op.0 gap name after is))
+    (λ _. reads_bind (AttributeStands s) (op_at (c ∷ rest)) _ (λ op is. match_reads opened s a own b (c ∷ rest) op.1 t u space op.0 gap name after is))
 
-keyed_reads : (opened : ℕ) (s a b : List ℕ) (t : Bool) (own : Ident) → GapStands s t a → KeyStands a own b
+keyed_reads : (opened : ℕ) (s a b : List ℕ) (t : Bool) (own : Space × Ident) → GapStands s t a → KeyIs a own b
     → Reads (AttributeStands s) (gap_at b >>= λ gap. after_key opened own gap.1)
-keyed_reads opened s a b t own gap (key_stands {name = name} h) =
-    reads_bind (AttributeStands s) (gap_at b) _ (λ c hc. after_key_reads opened s a name b c.1 t c.0 gap h hc)
+keyed_reads opened s a b t own gap (key_is {name = name} {space = space} h) =
+    reads_bind (AttributeStands s) (gap_at b) _ (λ c hc. after_key_reads opened s a name b c.1 t c.0 space gap h hc)
 
 attribute_reads : (opened : ℕ) (s : List ℕ) → Reads (AttributeStands s) (attribute_at opened s)
 attribute_reads opened s =
     reads_bind (AttributeStands s) (gap_at s) _ (λ a ha.
-    reads_then (KeyStands a.1) (AttributeStands s) (key_at a.1) _ (key_reads a.1) (λ name hn.
+    reads_then (KeyIs a.1) (AttributeStands s) (key_at a.1) _ (key_reads a.1) (λ name hn.
     keyed_reads opened s a.1 name.1 a.0 name.0 ha hn))
 
 -- what a pseudo-class is, after its `:`
@@ -244,10 +263,33 @@ simple_reads first b s =
     reads_map (Ok p) h = pseudo_simple first s p.0 p.1 h
     reads_map (Err w) h = tt
 
+type_reads : (s : List ℕ) → Reads (TypeStands s) (type_at s)
+type_reads [] = tt
+type_reads (b ∷ s) = if_both (λ (r : Read Test). Reads (TypeStands (b ∷ s)) r) (b == byte "*") _ _
+    (λ e. subst (λ (c : ℕ). TypeStands (c ∷ s) Any s) (sym (eqb-true b (byte "*") e)) any_type)
+    (λ _. reads_bind (TypeStands (b ∷ s)) (name_at (b ∷ s)) _ (λ name h. named_type h))
+
+no_bar_by : (v : Bool) (s : List ℕ) → (if v then Some s else None) ≡ None → v ≡ false
+no_bar_by true s h = absurd (cc)
+no_bar_by false s h = refl
+
+no_bar : (s : List ℕ) → after_byte (byte "|") s ≡ None → begins_bar s ≡ false
+no_bar [] h = refl
+no_bar (b ∷ s) h = no_bar_by (b == byte "|") s h
+
+star_reads : (s : List ℕ) (o : Option (List ℕ)) → after_byte (byte "|") s ≡ o → Reads (SimpleIs true (byte "*" ∷ s)) (star_by s o)
+star_reads s None is = any (no_bar s is)
+star_reads s (Some rest) is =
+    subst (λ (t : List ℕ). Reads (SimpleIs true (byte "*" ∷ t)) (star_by s (Some rest))) (sym (after_byte_is (byte "|") s rest is))
+    (reads_then (TypeStands rest) (SimpleIs true (byte "*" ∷ byte "|" ∷ rest)) (type_at rest) _ (type_reads rest) (λ test h. every_type h))
+
 first_reads_as : (b : ℕ) (s : List ℕ) → Reads (SimpleIs true (b ∷ s)) (first_at (b ∷ s))
 first_reads_as b s = if_both (λ (r : Read Simple). Reads (SimpleIs true (b ∷ s)) r) (b == byte "*") _ _
-    (λ e. at_byte true b (byte "*") s (Ok (Whole (Is Any), s)) e (any {s = s}))
-    (λ _. if_both (λ (r : Read Simple). Reads (SimpleIs true (b ∷ s)) r) (begins_name (b ∷ s)) _ _ (λ n. type (name_stands (b ∷ s) n)) (λ _. simple_reads true b s))
+    (λ e. at_byte true b (byte "*") s (star_by s (after_byte (byte "|") s)) e (star_reads s (after_byte (byte "|") s) refl))
+    (λ _. if_both (λ (r : Read Simple). Reads (SimpleIs true (b ∷ s)) r) (b == byte "|") _ _
+    (λ e. at_byte true b (byte "|") s (type_at s >>= λ test. Ok (Whole nowhere, test.1)) e
+    (reads_then (TypeStands s) (SimpleIs true (byte "|" ∷ s)) (type_at s) _ (type_reads s) (λ test h. bare_type h)))
+    (λ _. if_both (λ (r : Read Simple). Reads (SimpleIs true (b ∷ s)) r) (begins_name (b ∷ s)) _ _ (λ n. type (name_stands (b ∷ s) n)) (λ _. simple_reads true b s)))
 
 simples_read : (first : Bool) (s : List ℕ) → Reads (SimpleIs first s) (simple_by first s)
 simples_read true [] = tt
@@ -270,15 +312,14 @@ never h = cc
 not_byte : (b c : ℕ) (t : List ℕ) → begins_name (b ∷ t) ≡ true → begins_name (c ∷ t) ≡ false → (b == c) ≡ false
 not_byte b c t h other = differs b c (λ (e : b ≡ c). never (sym other ∙ subst (λ (b : ℕ). begins_name (b ∷ t) ≡ true) e h))
 
-no_namespace : (s : List ℕ) → begins_name s ≡ true → begins_namespace s ≡ false
-no_namespace [] h = refl
-no_namespace (b ∷ t) h =
-    ap (λ (v : Bool). v || (if b == byte "*" then is_some (after_byte (byte "|") t) else false)) (not_byte b (byte "|") t h refl)
-    ∙ if_no _ _ _ (not_byte b (byte "*") t h refl)
+no_space : (s : List ℕ) → begins_name s ≡ true → space_at s ≡ (Bare, s)
+no_space [] h = refl
+no_space (b ∷ t) h = if_no _ _ _ (not_byte b (byte "|") t h refl) ∙ if_no _ _ _ (not_byte b (byte "*") t h refl)
 
-key_read : (s own rest : List ℕ) → NameStands s own rest → key_at s ≡ Ok (ident_of own, rest)
-key_read s own rest h =
-    if_no _ _ _ (no_namespace s (name_is s own rest h).0) ∙ bind_to (name_at s) _ _ _ h refl
+key_read : (s own rest : List ℕ) (space : Space) → KeyStands s space own rest → key_at s ≡ Ok ((space, ident_of own), rest)
+key_read s own rest space (plain_key h) = ap keyed (no_space s (name_is s own rest h).0) ∙ bind_to (name_at s) _ _ _ h refl
+key_read s own rest space (bare_space {s = t} h) = bind_to (name_at t) _ _ _ h refl
+key_read s own rest space (every_space {s = t} h) = bind_to (name_at t) _ _ _ h refl
 
 bare_read : (opened : ℕ) (s own rest : List ℕ) → NameStands s own rest → value_at opened s ≡ Ok (own, rest)
 bare_read opened [] own rest h = absurd (never (name_is [] own rest h).0)
@@ -297,21 +338,21 @@ value_read opened s own rest (bare h) = bare_read opened s own rest h
 value_read opened s own rest (quoted {q = q} {s = t} is h) =
     if_yes _ _ _ is ∙ (ap (λ (r : List ℕ × List ℕ). string_by (q ∷ t) q r) h ∙ string_is (q ∷ t) q own rest)
 
-flag_read : (s rest : List ℕ) (f : Bool) → FlagStands s f rest → flag_at s ≡ Ok (f, rest)
+flag_read : (s rest : List ℕ) (f : Case) → FlagStands s f rest → flag_at s ≡ Ok (f, rest)
 flag_read s rest f (no_flag none) = if_no _ _ _ none
 flag_read s rest f (folds h) =
     let is = word_is s (codes "i") rest h in
-    if_yes _ _ _ is.0 ∙ (if_yes _ _ _ (ap (λ (own : List ℕ). bytes_eq own (codes "i")) is.1) ∙ ap (λ (r : List ℕ). Ok (true, r)) is.2)
+    if_yes _ _ _ is.0 ∙ (if_yes _ _ _ (ap (λ (own : List ℕ). bytes_eq own (codes "i")) is.1) ∙ ap (λ (r : List ℕ). Ok (Folded, r)) is.2)
 flag_read s rest f (exact h) =
     let is = word_is s (codes "s") rest h in
     if_yes _ _ _ is.0 ∙ (if_no _ _ _ (ap (λ (own : List ℕ). bytes_eq own (codes "i")) is.1)
-    ∙ (if_yes _ _ _ (ap (λ (own : List ℕ). bytes_eq own (codes "s")) is.1) ∙ ap (λ (r : List ℕ). Ok (false, r)) is.2))
+    ∙ (if_yes _ _ _ (ap (λ (own : List ℕ). bytes_eq own (codes "s")) is.1) ∙ ap (λ (r : List ℕ). Ok (Exact, r)) is.2))
 
 no_op : (t : List ℕ) (r : Option (List ℕ)) (y : Op × List ℕ) → op_by (byte "]") t None r ≡ Ok y → ⊥
 no_op t None y h = absurd (cc)
 no_op t (Some rest) y h = absurd (cc)
 
-after_key_read : (opened : ℕ) (own : Ident) (c d : List ℕ) (op : Op) (y : Test × List ℕ) → op_at c ≡ Ok (op, d) → match_at opened own op d ≡ Ok y
+after_key_read : (opened : ℕ) (own : Space × Ident) (c d : List ℕ) (op : Op) (y : Test × List ℕ) → op_at c ≡ Ok (op, d) → match_at opened own op d ≡ Ok y
     → after_key opened own c ≡ Ok y
 after_key_read opened own [] d op y is h = absurd (cc)
 after_key_read opened own (b ∷ t) d op y is h =
@@ -319,11 +360,11 @@ after_key_read opened own (b ∷ t) d op y is h =
     ∙ bind_to (op_at (b ∷ t)) _ _ _ is h
 
 attribute_read : (opened : ℕ) (s : List ℕ) (test : Test) (rest : List ℕ) → AttributeStands s test rest → attribute_at opened s ≡ Ok (test, rest)
-attribute_read opened s test rest (key {a = a} {b = b} {key = own} gap name after) =
-    bind_to (gap_at s) _ _ _ gap (bind_to (key_at a) _ _ _ (key_read a own b name) (bind_to (gap_at b) _ _ _ after refl))
-attribute_read opened s test rest (value {a = a} {b = b} {c = c} {d = d} {e = e} {f = f} {g = g} {h = h} {key = own} {own = text} {folds = flag} {op = op} gap name after is before own_is behind flag_is x last) =
-    bind_to (gap_at s) _ _ _ gap (bind_to (key_at a) _ _ _ (key_read a own b name) (bind_to (gap_at b) _ _ _ after
-    (after_key_read opened (ident_of own) c d op _ is
+attribute_read opened s test rest (key {a = a} {b = b} {key = own} {space = space} gap name after) =
+    bind_to (gap_at s) _ _ _ gap (bind_to (key_at a) _ _ _ (key_read a own b space name) (bind_to (gap_at b) _ _ _ after refl))
+attribute_read opened s test rest (value {a = a} {b = b} {c = c} {d = d} {e = e} {f = f} {g = g} {h = h} {key = own} {own = text} {space = space} {op = op} {case = flag} gap name after is before own_is behind flag_is x last) =
+    bind_to (gap_at s) _ _ _ gap (bind_to (key_at a) _ _ _ (key_read a own b space name) (bind_to (gap_at b) _ _ _ after
+    (after_key_read opened (space, ident_of own) c d op _ is
     (bind_to (gap_at d) _ _ _ before (bind_to (value_at opened e) _ _ _ (value_read opened e text f own_is)
     (bind_to (gap_at f) _ _ _ behind (bind_to (flag_at g) _ _ _ (flag_read g h flag flag_is) (bind_to (gap_at h) _ _ _ last refl))))))))
 
@@ -392,10 +433,23 @@ type_read [] own rest h = absurd (never (name_is [] own rest h).0)
 type_read (b ∷ t) own rest h =
     let is = name_is (b ∷ t) own rest h in
     if_no _ _ _ (not_byte b (byte "*") t is.0 refl)
-    ∙ (if_yes _ _ _ is.0 ∙ ap (λ (r : List ℕ × List ℕ). Ok (Whole (Is (Name (ident_of r.0))), r.1)) is.1)
+    ∙ (if_no _ _ _ (not_byte b (byte "|") t is.0 refl)
+    ∙ (if_yes _ _ _ is.0 ∙ ap (λ (r : List ℕ × List ℕ). Ok (Whole (Is (Name (ident_of r.0))), r.1)) is.1))
+
+typed_read : (s : List ℕ) (test : Test) (rest : List ℕ) → TypeStands s test rest → type_at s ≡ Ok (test, rest)
+typed_read s test rest any_type = refl
+typed_read [] test rest (named_type {name = own} h) = absurd (never (name_is [] own rest h).0)
+typed_read (b ∷ t) test rest (named_type {name = own} h) =
+    if_no _ _ _ (not_byte b (byte "*") t (name_is (b ∷ t) own rest h).0 refl) ∙ bind_to (name_at (b ∷ t)) _ _ _ h refl
+
+bar_none : (s : List ℕ) → begins_bar s ≡ false → after_byte (byte "|") s ≡ None
+bar_none [] h = refl
+bar_none (b ∷ s) h = if_no _ _ _ h
 
 pub simple_read : (first : Bool) (s : List ℕ) (e : Css) (rest : List ℕ) → SimpleStands first s e rest → simple_by first s ≡ Ok (Whole e, rest)
-simple_read first s e rest any = refl
+simple_read first s e rest (any {s = t} none) = ap (star_by t) (bar_none t none)
+simple_read first s e rest (every_type {s = t} {test = test} h) = bind_to (type_at t) _ _ _ (typed_read t test rest h) refl
+simple_read first s e rest (bare_type {s = t} {test = test} h) = bind_to (type_at t) _ _ _ (typed_read t test rest h) refl
 simple_read first s e rest (type {name = own} h) = type_read s own rest h
 simple_read true s e rest nesting = refl
 simple_read false s e rest nesting = refl

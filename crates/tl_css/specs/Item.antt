@@ -4,7 +4,7 @@ use Rattle.std.specs.Prelude.{ℕ, Bool, true, false, not, ◌&&◌, ◌==◌, i
 use Rattle.std.specs.Str.{byte}
 use Rattle.std.specs.List.{list_any}
 use Rattle.tl_css.specs.declared.error.Cause.{Cause}
-use Rattle.tl_css.specs.declared.error.Cause.TheVariants.{Unclosed, NoSelector, Namespace, Unexpected}
+use Rattle.tl_css.specs.declared.error.Cause.TheVariants.{Unclosed, NoName, NoSelector, Namespace, Unexpected}
 use Rattle.tl_css.specs.declared.selector.Anchor.TheVariants.{Scope}
 use Rattle.tl_css.specs.declared.text.role.Role.{Role}
 use Rattle.tl_css.specs.declared.text.role.Role.TheVariants.{Top, Is as IsRole, Not as NotRole, Has, NthOf}
@@ -12,11 +12,11 @@ use Rattle.tl_css.specs.declared.text.role.Combinator.{Combinator}
 use Rattle.tl_css.specs.declared.text.role.Combinator.TheVariants.{Descendant, Child, NextSibling, SubsequentSibling}
 use Rattle.tl_css.specs.declared.text.role.Before.{Before}
 use Rattle.tl_css.specs.declared.text.role.Before.TheVariants.{Touching, After, Begin}
-use Rattle.tl_css.specs.Selector.{Any, Name, Id, Class, Is}
-use Rattle.tl_css.specs.Read.{Read, wrong, wrong_at, ◌>>=◌}
+use Rattle.tl_css.specs.Selector.{ident_of, Test, Any, Name, Id, Class, Is}
+use Rattle.tl_css.specs.Read.{Read, wrong, wrong_at, ◌>>=◌, after_byte}
 use Rattle.tl_css.specs.Lexical.{run_at, begins_name, name_at, gap_at, ident_run}
 use Rattle.tl_css.specs.Attribute.{attribute_at}
-use Rattle.tl_css.specs.PseudoClass.{Simple, Whole, outermost, pseudo_at}
+use Rattle.tl_css.specs.PseudoClass.{Simple, Whole, nowhere, outermost, pseudo_at}
 
 abbrev pub unexpected : ℕ → Cause
 unexpected b =
@@ -36,14 +36,27 @@ simple_at (b ∷ s) =
     else (if b == byte "&" then Ok (Whole (outermost Scope), s)
     else wrong (b ∷ s) (unexpected b)))))
 
--- a simple selector that may stand first: a type selector too
+-- what stands after the `|` of a type: `*`, or a name
+abbrev pub type_at : List ℕ → Read Test
+type_at [] = wrong [] NoName
+type_at (b ∷ s) = if b == byte "*" then Ok (Any, s)
+    else (name_at (b ∷ s) >>= λ name. Ok (Name (ident_of name.0), name.1))
+
+-- after a `*`: a `|` makes it any namespace, in which a type stands
+abbrev pub star_by : List ℕ → Option (List ℕ) → Read Simple
+star_by s None = Ok (Whole (Is Any), s)
+star_by s (Some rest) = type_at rest >>= λ test. Ok (Whole (Is test.0), test.1)
+
+-- a simple selector that may stand first: a type selector too. A `|` at its front asks for no
+-- namespace
 abbrev pub first_at : List ℕ → Read Simple
 first_at [] = wrong [] NoSelector
 first_at (b ∷ s) =
-    if b == byte "*" then Ok (Whole (Is Any), s)
+    if b == byte "*" then star_by s (after_byte (byte "|") s)
+    else (if b == byte "|" then (type_at s >>= λ test. Ok (Whole nowhere, test.1))
     else (if begins_name (b ∷ s) then Ok
     (Whole (Is (Name (ident_run (b ∷ s)))), (run_at None (b ∷ s)).1)
-    else simple_at (b ∷ s))
+    else simple_at (b ∷ s)))
 
 abbrev pub combinator_of : ℕ → Option Combinator
 combinator_of b =

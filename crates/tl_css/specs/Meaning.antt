@@ -1,5 +1,5 @@
 -- Where a selector of CSS holds: at tags.
-use Rattle.std.specs.Prelude.{◌≡◌, ◌≢◌, ◌↔◌, ◌⊎◌, ◌<◌, ◌≤◌, ◌+ℤ◌, ◌*ℤ◌, ℕ, zero, suc, pos, Bool, true, if◌then◌else◌, List, [], ◌∷◌, ◌++◌, length, Some, slice_get, ⊤}
+use Rattle.std.specs.Prelude.{◌≡◌, ◌≢◌, ◌↔◌, ◌⊎◌, ◌<◌, ◌≤◌, ◌+ℤ◌, ◌*ℤ◌, ℕ, zero, suc, pos, Bool, true, false, if◌then◌else◌, List, [], ◌∷◌, ◌++◌, length, Some, slice_get, ⊤}
 use Rattle.std.specs.List.{All, AllPairs, Contains, slice_split}
 use Rattle.std.specs.Option.{IsSome, IsSomeAnd, unwrap_or}
 use Rattle.std.specs.Str.{byte, str_to_ascii_lowercase}
@@ -18,7 +18,7 @@ use Rattle.tl_css.specs.declared.selector.Reach.TheVariants.{Once, Often}
 use Rattle.tl_css.specs.declared.selector.Way.{Way}
 use Rattle.tl_css.specs.declared.selector.Way.TheVariants.{From, To}
 use Rattle.tl_css.specs.declared.selector.Formula.{Formula}
-use Rattle.tl_css.specs.Selector.{Test, Any, Name, Id, Class, Key, Value, Empty, May, Css, Is, Not, Both, Either, At, Nth}
+use Rattle.tl_css.specs.Selector.{folds_by, Test, Any, Name, Id, Class, Key, Value, Empty, May, Css, Is, Not, Both, Either, At, Nth}
 use Rattle.tl_css.specs.Bytes.{is_white}
 
 -- the pairs of a tag, `id` and `class` too
@@ -42,8 +42,12 @@ Passes Ends value own = (value ≢ []) × (before : List ℕ) × (own ≡ before
 Passes Inside value own =
     (value ≢ []) × (before : List ℕ) × (behind : List ℕ) × (own ≡ before ++ value ++ behind)
 
+-- the same in any case, where `folds`
+abbrev pub PassesBy : Bool → Op → List ℕ → List ℕ → Type 0
+PassesBy folds op value own = Passes op (folded folds value) (folded folds own)
+
 -- there is a key that is this one in lower case, and what stands there passes: nothing stands for
--- the empty value
+-- the empty value. No key has a namespace
 abbrev pub HasKey : (List ℕ → Type 0) → List ℕ → Node → Type 0
 HasKey P key node = (pair : Pair) × Contains (pairs_of node) pair
     × (str_to_ascii_lowercase pair.0 ≡ key) × P (unwrap_or pair.1 [])
@@ -80,9 +84,9 @@ module _ (nodes : List Node) where
   IsMet (Name name) node = IsNamed name.lower node
   IsMet (Id id) node = has_id id node ≡ true
   IsMet (Class class) node = is_in_class class node ≡ true
-  IsMet (Key key) node = HasKey (λ own. ⊤) key.lower node
-  IsMet (Value key op value folds) node =
-      HasKey (λ own. Passes op (folded folds value) (folded folds own)) key.lower node
+  IsMet (Key space key) node = HasKey (λ own. ⊤) key.lower node
+  IsMet (Value space key op value case) node =
+      HasKey (PassesBy (folds_by case false) op value) key.lower node
   IsMet Empty node = All IsNothing (children_of node)
   IsMet (May anchor) node = ⊤
 

@@ -30,6 +30,10 @@ only link = Both (edge From link) (edge To link)
 abbrev pub outermost : Anchor → Css
 outermost anchor = Both (Is (May anchor)) (Not (At From Parent Once (Is (May anchor))))
 
+-- in no namespace: each element of a page is in one
+abbrev pub nowhere : Css
+nowhere = Not (Is Any)
+
 -- the pseudo-classes without an argument
 abbrev pub plain_class : List ℕ → Option PseudoClass
 plain_class word =

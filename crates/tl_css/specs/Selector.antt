@@ -1,8 +1,11 @@
 -- Selectors of CSS: what a selector text stands for.
-use Rattle.std.specs.Prelude.{ℕ, Bool, List}
+use Rattle.std.specs.Prelude.{ℕ, Bool, true, false, List}
 use Rattle.std.specs.Str.{str_to_ascii_lowercase}
 use Rattle.tl_css.specs.declared.selector.Anchor.{Anchor}
+use Rattle.tl_css.specs.declared.selector.Case.{Case}
+use Rattle.tl_css.specs.declared.selector.Case.TheVariants.{Unsaid, Folded, Exact}
 use Rattle.tl_css.specs.declared.selector.Op.{Op}
+use Rattle.tl_css.specs.declared.selector.Space.{Space}
 use Rattle.tl_css.specs.declared.selector.Link.{Link}
 use Rattle.tl_css.specs.declared.selector.Reach.{Reach}
 use Rattle.tl_css.specs.declared.selector.Way.{Way}
@@ -16,15 +19,21 @@ pub record Ident : Type 0 where
 abbrev pub ident_of : List ℕ → Ident
 ident_of name = record { lower = str_to_ascii_lowercase name; written = name }
 
--- a test of a tag by itself; `true` folds the case of a value. `May` is met where a tag may be this
--- anchor: a selector for the anchor is met by the outermost of these
+-- whether the case of a value is folded: as a flag says, or else as the page has it
+abbrev pub folds_by : Case → Bool → Bool
+folds_by Unsaid page = page
+folds_by Folded page = true
+folds_by Exact page = false
+
+-- a test of a tag by itself. `May` is met where a tag may be this anchor: a selector for the anchor
+-- is met by the outermost of these
 pub data Test : Type 0 where
   Any : Test
   Name : Ident → Test
   Id : List ℕ → Test
   Class : List ℕ → Test
-  Key : Ident → Test
-  Value : Ident → Op → List ℕ → Bool → Test
+  Key : Space → Ident → Test
+  Value : Space → Ident → Op → List ℕ → Case → Test
   Empty : Test
   May : Anchor → Test
 

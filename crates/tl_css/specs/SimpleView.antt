@@ -10,7 +10,7 @@ use Rattle.tl_css.specs.declared.text.pseudo_class.Simple.TheVariants as p
 use Rattle.tl_css.specs.Selector.{Test, Any, Name, Id, Class, Key, Value, Empty, May, Css, Is, Nth}
 use Rattle.tl_css.specs.Lexical.{run_at, ident_run}
 use Rattle.tl_css.specs.PseudoClass as s
-use Rattle.tl_css.specs.PseudoClass.{edge, only, outermost}
+use Rattle.tl_css.specs.PseudoClass.{edge, nowhere, only, outermost}
 
 abbrev pub run_text : Run → List ℕ
 run_text run = (run_at run.quote run.text.now).0
@@ -20,8 +20,9 @@ test_text t.Any = Any
 test_text (t.Name name) = Name (ident_run name.now)
 test_text (t.Id id) = Id (run_at None id.now).0
 test_text (t.Class class) = Class (run_at None class.now).0
-test_text (t.Key key) = Key (ident_run key.now)
-test_text (t.Value key op value folds) = Value (ident_run key.now) op (run_text value) folds
+test_text (t.Key space key) = Key space (ident_run key.now)
+test_text (t.Value space key op value case) =
+    Value space (ident_run key.now) op (run_text value) case
 test_text t.Empty = Empty
 
 abbrev pub whole : Whole → Css
@@ -29,6 +30,7 @@ whole (w.Test test) = Is (test_text test)
 whole (w.Edge way link) = edge way link
 whole (w.Only link) = only link
 whole (w.Outermost anchor) = outermost anchor
+whole w.Nowhere = nowhere
 whole (w.Nth way link formula) = Nth way link formula (Is Any)
 
 abbrev pub simple : Simple → s.Simple

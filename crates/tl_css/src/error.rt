@@ -31,7 +31,7 @@ pub enum Cause {
     NoPseudoClass,
     /// Pseudo-elements are no tags.
     PseudoElement,
-    /// Namespaces aren't known.
+    /// No prefix of a namespace is known.
     Namespace,
     /// The pseudo-class needs an argument in brackets.
     NeedsArgument,
@@ -90,7 +90,7 @@ impl fmt::Display for Cause {
             Cause::LargeNumber => "the number is above 2147483647",
             Cause::NoPseudoClass => "no such pseudo-class",
             Cause::PseudoElement => "a pseudo-element is no tag",
-            Cause::Namespace => "namespaces are not known here",
+            Cause::Namespace => "no prefix of a namespace is known here",
             Cause::NeedsArgument => "an argument in brackets is missing",
             Cause::TakesNone => "this pseudo-class takes no argument",
             Cause::TooDeep => "too many selectors inside one another",

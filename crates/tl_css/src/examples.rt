@@ -1,8 +1,12 @@
-//! Worked rows: texts of relative selectors beside the texts that say the same.
+//! Worked rows: texts of selectors beside the texts that say the same, or what they say.
 
-ghost use Rattle.std.specs.Prelude.{◌≡◌};
+ghost use Rattle.std.specs.Prelude.{◌≡◌, Ok, codes};
 ghost use Rattle.tl_css.specs.Examples.{plain, relative, wrong_from};
-ghost use Rattle.tl_css.specs.declared.error.Cause.TheVariants.{NoSelector};
+ghost use Rattle.tl_css.specs.Selector.{Is, Key, Value, ident_of};
+ghost use Rattle.tl_css.specs.declared.error.Cause.TheVariants.{Namespace, NoFlag, NoName, NoSelector};
+ghost use Rattle.tl_css.specs.declared.selector.Case.TheVariants.{Exact, Folded, Unsaid};
+ghost use Rattle.tl_css.specs.declared.selector.Op.TheVariants.{Equals};
+ghost use Rattle.tl_css.specs.declared.selector.Space.TheVariants.{Bare, Every};
 
 /// A combinator at the front leads from the scope.
 #[tactic(auto, unfolding(crate::specs::Reading::read, crate::specs::Relative::read_by, crate::specs::Lexical::run_at, crate::specs::Lexical::gap_at))]
@@ -25,4 +29,36 @@ pub fn nothing_else_is_led()
     ensures twice { relative "> > a" ≡ wrong_from 2 NoSelector }
     ensures in_brackets { relative "a:is(> b)" ≡ wrong_from 5 NoSelector }
     ensures comma { relative "> a," ≡ wrong_from 4 NoSelector }
+{}
+
+/// A flag says how the case of a value counts.
+#[tactic(auto, unfolding(crate::specs::Reading::read, crate::specs::Lexical::run_at, crate::specs::Lexical::gap_at))]
+pub fn flags_say_how_case_counts()
+    ensures unsaid { plain "[k=V]"
+        ≡ Ok (Is (Value Bare (ident_of (codes "k")) Equals (codes "V") Unsaid)) }
+    ensures folded { plain "[k=V I]"
+        ≡ Ok (Is (Value Bare (ident_of (codes "k")) Equals (codes "V") Folded)) }
+    ensures exact { plain "[k=V S]"
+        ≡ Ok (Is (Value Bare (ident_of (codes "k")) Equals (codes "V") Exact)) }
+    ensures quoted { plain "[k='V's]" ≡ plain "[k=V s]" }
+    ensures other { plain "[k=V x]" ≡ wrong_from 5 NoFlag }
+    ensures longer { plain "[k=V si]" ≡ wrong_from 5 NoFlag }
+{}
+
+/// A type stands in any namespace, with `*|` before it or without; each element is in one, so `|`
+/// is of none. A key has no namespace, but behind `*|`.
+#[tactic(auto, unfolding(crate::specs::Reading::read, crate::specs::Lexical::run_at, crate::specs::Lexical::gap_at))]
+pub fn no_prefix_stands_for_a_namespace()
+    ensures every { plain "*|a" ≡ plain "a" }
+    ensures any { plain "*|*.b" ≡ plain "*.b" }
+    ensures bare { plain "|a" ≡ plain ":not(*)" }
+    ensures bare_any { plain "a |*" ≡ plain "a :not(*)" }
+    ensures bare_key { plain "[|k]" ≡ plain "[k]" }
+    ensures bare_value { plain "[|k|=v]" ≡ plain "[k|=v]" }
+    ensures every_key { plain "[*|k]" ≡ Ok (Is (Key Every (ident_of (codes "k")))) }
+    ensures prefix { plain "svg|a" ≡ wrong_from 3 Namespace }
+    ensures prefixed_key { plain "[svg|k]" ≡ wrong_from 4 Namespace }
+    ensures twice { plain "*|*|a" ≡ wrong_from 3 Namespace }
+    ensures spaced { plain "*| a" ≡ wrong_from 2 NoName }
+    ensures column { plain "a || b" ≡ wrong_from 3 NoName }
 {}

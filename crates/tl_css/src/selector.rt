@@ -26,6 +26,26 @@ pub enum Op {
     Inside,
 }
 
+/// How the case of a value counts.
+#[derive(Clone, Copy, PartialEq, Eq, Debug)]
+pub enum Case {
+    /// As the page has it: no flag says.
+    Unsaid,
+    /// In any case: the flag `i`.
+    Folded,
+    /// As it is written: the flag `s`.
+    Exact,
+}
+
+/// The namespaces in which a key is looked for.
+#[derive(Clone, Copy, PartialEq, Eq, Debug)]
+pub enum Space {
+    /// None: a key without a prefix, or behind `|`.
+    Bare,
+    /// Any, or none: a key behind `*|`.
+    Every,
+}
+
 /// A link from a tag to one before it.
 #[derive(Clone, Copy, PartialEq, Eq, Debug)]
 pub enum Link {
@@ -86,9 +106,9 @@ pub enum Test {
     Name(Ident),
     Id(Vec<u8>),
     Class(Vec<u8>),
-    Key(Ident),
-    /// The value at a key passes an op with another one; `true` folds ASCII case.
-    Value(Ident, Op, Vec<u8>, bool),
+    Key(Space, Ident),
+    /// The value at a key passes an op with another one, where case counts so.
+    Value(Space, Ident, Op, Vec<u8>, Case),
     /// It has no child but comments.
     Empty,
     /// It may be this anchor. Where none is given, each tag may be.

@@ -12,12 +12,14 @@ use Rattle.tl_spec.specs.Select.Text as port
 use Rattle.tl_spec.proofs.Lex.Bytes.{AllPass, AllPass-also, not_this, passes}
 use Rattle.tl_spec.proofs.Lex.Grammar.{if_yes, if_no, run-take}
 use Rattle.tl_css.specs.declared.selector.Op.{Op}
+use Rattle.tl_css.specs.declared.selector.Case.TheVariants.{Unsaid}
 use Rattle.tl_css.specs.declared.selector.Op.TheVariants.{Equals, Word, Starts, Ends, Inside}
+use Rattle.tl_css.specs.declared.selector.Space.TheVariants.{Bare}
 use Rattle.tl_css.specs.Bytes.{is_white, is_name_byte}
 use Rattle.tl_css.specs.Lexical.{begins_comment, begins_name, gap_part_at, is_plain, part_at, run_at}
 use Rattle.tl_css.specs.Attribute.{op_at}
 use Rattle.tl_css.specs.Selector.{Is, Key, Value, ident_of}
-use Rattle.tl_css.specs.SimpleGrammar.{GapStands, NameStands, ValueStands, bare, quoted, no_flag, AttributeStands, key, value}
+use Rattle.tl_css.specs.SimpleGrammar.{GapStands, NameStands, ValueStands, bare, quoted, no_flag, plain_key, AttributeStands, key, value}
 use Rattle.tl_css.proofs.Runs.{run_none, run_some, gap_from, gap_some, gap_none, gap_first}
 use Rattle.tl_css_laws.specs.Plain.{css_of}
 use Rattle.tl_css_laws.specs.Shared.{is_shared_byte, is_shared_name, is_lower_name, is_shared, begins_shared_value, has_shared_values}
@@ -91,10 +93,6 @@ pub spaces_stand : {spaces : List ℕ} (s : List ℕ) → port.AreSpaces spaces 
 spaces_stand s port.no_space h = (false, gap_stands s h)
 spaces_stand s (port.one_space k) h = (true, white_stands s k h)
 
-pub spaces_end : {spaces : List ℕ} (s : List ℕ) → port.AreSpaces spaces → NoMore None s → NoMore None (spaces ++ s)
-spaces_end s port.no_space e = e
-spaces_end s (port.one_space k) e = refl
-
 name_byte_solid : (b : ℕ) → is_name_byte b ≡ true → (is_white b ≡ false) × ((b == 47) ≡ false)
 name_byte_solid b h =
     let not_byte : (c : ℕ) → is_name_byte c ≡ false → (b == c) ≡ false = λ c n. not_this is_name_byte b c h n in
@@ -161,7 +159,7 @@ value_rest (port.quoted {s = u} {v = v} {rest = rest} {q = q} y r) h =
 
 -- the op of CSS that asks the same
 pub op_stands : {op : List ℕ} {gives : List ℕ → List ℕ → Selector} → port.OpGives op gives → (u : List ℕ)
-    → (own : Op) × (op_at (op ++ u) ≡ Ok (own, u)) × ((k v : List ℕ) → css_of (gives k v) ≡ Is (Value (ident_of k) own v false))
+    → (own : Op) × (op_at (op ++ u) ≡ Ok (own, u)) × ((k v : List ℕ) → css_of (gives k v) ≡ Is (Value Bare (ident_of k) own v Unsaid))
 op_stands port.equal u = (Equals, refl, λ k v. refl)
 op_stands port.has_part u = (Word, refl, λ k v. refl)
 op_stands port.starts u = (Starts, refl, λ k v. refl)
@@ -192,13 +190,13 @@ op_key port.contains k v h = (and_parts (is_lower_name k) (has_bytes v) h).0
 
 -- Brackets
 
-pub key_stands : (k rest : List ℕ) → is_lower_name k ≡ true → AttributeStands (k ++ 93 ∷ rest) (Key (ident_of k)) rest
+pub key_stands : (k rest : List ℕ) → is_lower_name k ≡ true → AttributeStands (k ++ 93 ∷ rest) (Key Bare (ident_of k)) rest
 key_stands k rest h =
-    key (gap_stands (k ++ 93 ∷ rest) (name_solid k (93 ∷ rest) (lower_is_name k h))) (name_stands k (93 ∷ rest) (lower_is_name k h) refl) (gap_stands (93 ∷ rest) (refl, refl))
+    key (gap_stands (k ++ 93 ∷ rest) (name_solid k (93 ∷ rest) (lower_is_name k h))) (plain_key (name_stands k (93 ∷ rest) (lower_is_name k h) refl)) (gap_stands (93 ∷ rest) (refl, refl))
 
 pub test_stands : {op u v rest : List ℕ} {gives : List ℕ → List ℕ → Selector} (k : List ℕ) → is_lower_name k ≡ true → (g : port.OpGives op gives)
-    → ValueStands u v (93 ∷ rest) → Solid u → AttributeStands (k ++ (op ++ u)) (Value (ident_of k) (op_stands g u).0 v false) rest
+    → ValueStands u v (93 ∷ rest) → Solid u → AttributeStands (k ++ (op ++ u)) (Value Bare (ident_of k) (op_stands g u).0 v Unsaid) rest
 test_stands {op} {u} {v} {rest} k h g own solid =
     let after = op_solid g u in
-    value (gap_stands (k ++ (op ++ u)) (name_solid k (op ++ u) (lower_is_name k h))) (name_stands k (op ++ u) (lower_is_name k h) after.1) (gap_stands (op ++ u) after.0)
+    value (gap_stands (k ++ (op ++ u)) (name_solid k (op ++ u) (lower_is_name k h))) (plain_key (name_stands k (op ++ u) (lower_is_name k h) after.1)) (gap_stands (op ++ u) after.0)
     (op_stands g u).1 (gap_stands u solid) own (gap_stands (93 ∷ rest) (refl, refl)) (no_flag refl) false (gap_stands (93 ∷ rest) (refl, refl))

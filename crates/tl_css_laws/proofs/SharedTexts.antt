@@ -15,30 +15,39 @@ use Rattle.tl_spec.specs.Select.Text as port
 use Rattle.tl_spec.proofs.Lex.Bytes.{passes}
 use Rattle.tl_spec.proofs.Print.Lossy.{lossy-ident, lossy-IsUtf8}
 use Rattle.tl_spec.proofs.Select.Text.{text-only}
+use Rattle.tl_css.specs.declared.selector.Space.TheVariants.{Bare}
 use Rattle.tl_css.specs.Selector.{Css, Is, Any, Key, ident_of}
-use Rattle.tl_css.specs.SimpleGrammar.{GapStands, NameStands, AttributeStands, SimpleStands, any, type, id, class, attribute}
+use Rattle.tl_css.specs.SimpleGrammar.{GapStands, NameStands, AttributeStands, begins_bar, SimpleStands, any, type, id, class, attribute}
 use Rattle.tl_css.specs.Grammar.{marked, spaced, IsSelector}
 use Rattle.tl_css.specs.Reading.{css_at}
 use Rattle.tl_css_laws.specs.Plain.{IsLower, IsPlain, css_of}
 use Rattle.tl_css_laws.specs.Shared.{is_shared_name, is_lower_name, is_type, is_shared, has_shared_values, is_shared_text}
 use Rattle.tl_css_laws.proofs.FlatSelectors.{Flat, Flats, flat_first, flat_next, flat_joined, flats_first, flats_next, flats_stand, flats_are_read}
-use Rattle.tl_css_laws.proofs.SharedRuns.{NoMore, Solid, name_stands, lower_is_name, gap_stands, white_stands, spaces_stand, spaces_end, name_solid, values_after, value_stands, value_rest, op_stands, op_value, op_key, key_stands, test_stands}
+use Rattle.tl_css_laws.proofs.SharedRuns.{NoMore, Solid, name_stands, lower_is_name, gap_stands, white_stands, spaces_stand, name_solid, values_after, value_stands, value_rest, op_stands, op_value, op_key, key_stands, test_stands}
 
 abbrev HasShared : List ℕ → Type 0
 HasShared s = has_shared_values s ≡ true
 
+-- no name goes on here, and no `|` stands here
+abbrev Ends : List ℕ → Type 0
+Ends s = NoMore None s × (begins_bar s ≡ false)
+
+ends_after : {spaces : List ℕ} (s : List ℕ) → port.AreSpaces spaces → Ends s → Ends (spaces ++ s)
+ends_after s port.no_space e = e
+ends_after s (port.one_space k) e = (refl, refl)
+
 -- Simple selectors
 
-simple_stands : (first : Bool) {s rest : List ℕ} {e : Selector} → port.SimpleStands s e rest → (is_type e ≡ true → first ≡ true) → is_shared e ≡ true → HasShared s → NoMore None rest
+simple_stands : (first : Bool) {s rest : List ℕ} {e : Selector} → port.SimpleStands s e rest → (is_type e ≡ true → first ≡ true) → is_shared e ≡ true → HasShared s → Ends rest
     → SimpleStands first s (css_of e) rest
-simple_stands first (port.id_part {s = s} {i = i} {rest = rest} r) t sh v e = id (subst (λ (s : List ℕ). NameStands s i rest) (sym r.parts) (name_stands i rest sh e))
-simple_stands first (port.class_part {s = s} {i = i} {rest = rest} r) t sh v e = class (subst (λ (s : List ℕ). NameStands s i rest) (sym r.parts) (name_stands i rest sh e))
-simple_stands first (port.all_part {rest = rest}) t sh v e = subst (λ (first : Bool). SimpleStands first (42 ∷ rest) (Is Any) rest) (sym (t refl)) any
+simple_stands first (port.id_part {s = s} {i = i} {rest = rest} r) t sh v e = id (subst (λ (s : List ℕ). NameStands s i rest) (sym r.parts) (name_stands i rest sh e.0))
+simple_stands first (port.class_part {s = s} {i = i} {rest = rest} r) t sh v e = class (subst (λ (s : List ℕ). NameStands s i rest) (sym r.parts) (name_stands i rest sh e.0))
+simple_stands first (port.all_part {rest = rest}) t sh v e = subst (λ (first : Bool). SimpleStands first (42 ∷ rest) (Is Any) rest) (sym (t refl)) (any e.1)
 simple_stands first (port.tag_part {s = s} {i = i} {rest = rest} n r) t sh v e =
     subst (λ (first : Bool). SimpleStands first s (css_of (Tag i)) rest) (sym (t refl))
-    (subst (λ (s : List ℕ). SimpleStands true s (css_of (Tag i)) rest) (sym r.parts) (type (name_stands i rest (lower_is_name i sh) e)))
+    (subst (λ (s : List ℕ). SimpleStands true s (css_of (Tag i)) rest) (sym r.parts) (type (name_stands i rest (lower_is_name i sh) e.0)))
 simple_stands first (port.key_part {s = s} {k = k} {rest = rest} r) t sh v e =
-    attribute (subst (λ (s : List ℕ). AttributeStands s (Key (ident_of k)) rest) (sym r.parts) (key_stands k rest sh))
+    attribute (subst (λ (s : List ℕ). AttributeStands s (Key Bare (ident_of k)) rest) (sym r.parts) (key_stands k rest sh))
 simple_stands first (port.value_part {s = s} {k = k} {op = op} {u = u} {v = own} {rest = rest} {gives = gives} r g w) t sh v e =
     let values = op_value g u (values_after k (op ++ u) (subst HasShared r.parts v)) in
     let low = op_key g k own sh in
@@ -56,13 +65,13 @@ simple_solid (port.tag_part {i = i} {rest = rest} n r) sh = subst Solid (sym r.p
 simple_solid (port.key_part r) sh = (refl, refl)
 simple_solid (port.value_part r g w) sh = (refl, refl)
 
-other_ends : {s rest : List ℕ} {e : Selector} → port.SimpleStands s e rest → is_type e ≡ false → NoMore None s
-other_ends (port.id_part r) t = refl
-other_ends (port.class_part r) t = refl
+other_ends : {s rest : List ℕ} {e : Selector} → port.SimpleStands s e rest → is_type e ≡ false → Ends s
+other_ends (port.id_part r) t = (refl, refl)
+other_ends (port.class_part r) t = (refl, refl)
 other_ends port.all_part t = absurd (true≢false t)
 other_ends (port.tag_part n r) t = absurd (true≢false t)
-other_ends (port.key_part r) t = refl
-other_ends (port.value_part r g w) t = refl
+other_ends (port.key_part r) t = (refl, refl)
+other_ends (port.value_part r g w) t = (refl, refl)
 
 -- the values of what stands after are shared too
 
@@ -105,7 +114,7 @@ chain_solid : {s rest : List ℕ} {e : Selector} → port.ChainStands s e rest �
 chain_solid (port.first_part h) sh = simple_solid h sh
 chain_solid (port.next_part {a = a} {b = b} c j h) sh = chain_solid c (joint_shared j a b sh)
 
-chain_stands : {s0 s rest : List ℕ} {e : Selector} {w : Bool} → GapStands s0 w s → port.ChainStands s e rest → is_shared e ≡ true → HasShared s → NoMore None rest
+chain_stands : {s0 s rest : List ℕ} {e : Selector} {w : Bool} → GapStands s0 w s → port.ChainStands s e rest → is_shared e ≡ true → HasShared s → Ends rest
     → Flat s0 (css_of e) rest
 chain_stands gap (port.first_part h) sh v e = flat_first gap (simple_stands true h (λ _. refl) sh v e)
 chain_stands gap (port.next_part {m = m} {a = a} {b = b} c port.touching h) sh v e =
@@ -114,11 +123,11 @@ chain_stands gap (port.next_part {m = m} {a = a} {b = b} c port.touching h) sh v
     (simple_stands false h (λ t. absurd (true≢false (sym t ∙ is.2))) is.1 (chain_rest c v) e)
 chain_stands gap (port.next_part {n = n} {a = a} {b = b} c (port.spaced {spaces = spaces} k) h) sh v e =
     let is = both_shared a b sh in
-    flat_joined (chain_stands gap c is.0 v refl) (spaced (white_stands n k (simple_solid h is.1)))
+    flat_joined (chain_stands gap c is.0 v (refl, refl)) (spaced (white_stands n k (simple_solid h is.1)))
     (simple_stands true h (λ _. refl) is.1 (joint_rest (port.spaced k) (chain_rest c v)) e)
 chain_stands gap (port.next_part {n = n} {a = a} {b = b} c (port.stepped {before = before} {after = after} k l) h) sh v e =
     let is = both_shared a b sh in
-    flat_joined (chain_stands gap c is.0 v (spaces_end (62 ∷ (after ++ n)) k refl))
+    flat_joined (chain_stands gap c is.0 v (ends_after (62 ∷ (after ++ n)) k (refl, refl)))
     (marked (spaces_stand (62 ∷ (after ++ n)) k (refl, refl)).1 refl (spaces_stand n l (simple_solid h is.1)).1)
     (simple_stands true h (λ _. refl) is.1 (joint_rest (port.stepped k l) (chain_rest c v)) e)
 
@@ -128,13 +137,13 @@ chain_stands gap (port.next_part {n = n} {a = a} {b = b} c (port.stepped {before
 Before : (List ℕ → Type 0) → List ℕ → Type 0
 Before P rest = (k : List ℕ) × (w : Bool) × P k × GapStands k w rest
 
-complex_stands : {s rest : List ℕ} {e : Selector} → port.SpacedChainStands s e rest → is_shared e ≡ true → HasShared s → NoMore None rest → Solid rest
+complex_stands : {s rest : List ℕ} {e : Selector} → port.SpacedChainStands s e rest → is_shared e ≡ true → HasShared s → Ends rest → Solid rest
     → Before (Flat s (css_of e)) rest
 unfolding Before
 complex_stands (port.spaced_chain {before = before} {s = s} {after = after} {rest = rest} b c l) sh v e solid =
     let front = spaces_stand s b (chain_solid c sh) in
     let back = spaces_stand rest l solid in
-    (after ++ rest, back.0, chain_stands front.1 c sh (values_after before s v) (spaces_end rest l e), back.1)
+    (after ++ rest, back.0, chain_stands front.1 c sh (values_after before s v) (ends_after rest l e), back.1)
 
 spaced_rest : {s rest : List ℕ} {e : Selector} → port.SpacedChainStands s e rest → HasShared s → HasShared rest
 spaced_rest (port.spaced_chain {before = before} {s = s} {after = after} {rest = rest} b c l) v = values_after after rest (chain_rest c (values_after before s v))
@@ -143,7 +152,7 @@ list_rest : {s rest : List ℕ} {e : Selector} → port.ChainsStand s e rest →
 list_rest (port.first_chain c) v = spaced_rest c v
 list_rest (port.next_chain {m = m} cs c) v = spaced_rest c (values_after (44 ∷ []) m (list_rest cs v))
 
-list_stands : {s rest : List ℕ} {e : Selector} → port.ChainsStand s e rest → is_shared e ≡ true → HasShared s → NoMore None rest → Solid rest
+list_stands : {s rest : List ℕ} {e : Selector} → port.ChainsStand s e rest → is_shared e ≡ true → HasShared s → Ends rest → Solid rest
     → Before (Flats s (css_of e)) rest
 unfolding Before
 list_stands (port.first_chain c) sh v e solid =
@@ -151,20 +160,20 @@ list_stands (port.first_chain c) sh v e solid =
     (one.0, one.1, flats_first one.2, one.3)
 list_stands (port.next_chain {m = m} {a = a} {b = b} cs c) sh v e solid =
     let is = both_shared a b sh in
-    let one = list_stands cs is.0 v refl (refl, refl) in
+    let one = list_stands cs is.0 v (refl, refl) (refl, refl) in
     let two = complex_stands c is.1 (values_after (44 ∷ []) m (list_rest cs v)) e solid in
     (two.0, two.1, flats_next one.2 one.3 two.2, two.3)
 
 pub text_stands : (text : List ℕ) (e : Selector) → port.IsSelectorText text e → is_shared e ≡ true → HasShared text → IsSelector text (css_of e)
 unfolding Before
 text_stands text e h sh v =
-    let is = list_stands h sh v refl tt in
+    let is = list_stands h sh v (refl, refl) tt in
     record { rest = is.0; white = is.1; list = flats_stand is.2; end = is.3 }
 
 pub text_is_read : (text : List ℕ) (e : Selector) → port.IsSelectorText text e → is_shared e ≡ true → HasShared text → css_at text ≡ Ok (css_of e)
 unfolding Before
 text_is_read text e h sh v =
-    let is = list_stands h sh v refl tt in
+    let is = list_stands h sh v (refl, refl) tt in
     flats_are_read text is.0 (css_of e) is.1 is.2 is.3
 
 -- Such a selector is plain

@@ -10,9 +10,11 @@ use Rattle.tl_spec.specs.Print.Clean.{NodeHasOwnKeys}
 use Rattle.tl_spec.specs.Select.Selector.{Selector, Tag, Id, Class, All as Every, And, Or, Descendant, Parent as ChildOf, Attribute, AttributeValue, AttributeValueWhitespacedContains, AttributeValueStartsWith, AttributeValueEndsWith, AttributeValueSubstring}
 use Rattle.tl_spec.specs.Tree.Document.{Node}
 use Rattle.tl_spec.specs.Tree.Element.{name_of}
+use Rattle.tl_css.specs.declared.selector.Case.TheVariants.{Unsaid}
 use Rattle.tl_css.specs.declared.selector.Op.TheVariants.{Equals, Word, Starts, Ends, Inside}
 use Rattle.tl_css.specs.declared.selector.Link.TheVariants.{Parent}
 use Rattle.tl_css.specs.declared.selector.Reach.TheVariants.{Once, Often}
+use Rattle.tl_css.specs.declared.selector.Space.TheVariants.{Bare}
 use Rattle.tl_css.specs.declared.selector.Way.TheVariants.{From}
 use Rattle.tl_css.specs.Bytes.{is_white}
 use Rattle.tl_css.specs.Meaning.{pairs_of}
@@ -28,15 +30,15 @@ css_of (And a b) = Both (css_of a) (css_of b)
 css_of (Or a b) = Either (css_of a) (css_of b)
 css_of (Descendant a b) = Both (At From Parent Often (css_of a)) (css_of b)
 css_of (ChildOf a b) = Both (At From Parent Once (css_of a)) (css_of b)
-css_of (Attribute key) = Is (Key (ident_of key))
-css_of (AttributeValue key value) = Is (Value (ident_of key) Equals value false)
+css_of (Attribute key) = Is (Key Bare (ident_of key))
+css_of (AttributeValue key value) = Is (Value Bare (ident_of key) Equals value Unsaid)
 css_of (AttributeValueWhitespacedContains key value) =
-    Is (Value (ident_of key) Word value false)
+    Is (Value Bare (ident_of key) Word value Unsaid)
 css_of (AttributeValueStartsWith key value) =
-    Is (Value (ident_of key) Starts value false)
-css_of (AttributeValueEndsWith key value) = Is (Value (ident_of key) Ends value false)
+    Is (Value Bare (ident_of key) Starts value Unsaid)
+css_of (AttributeValueEndsWith key value) = Is (Value Bare (ident_of key) Ends value Unsaid)
 css_of (AttributeValueSubstring key value) =
-    Is (Value (ident_of key) Inside value false)
+    Is (Value Bare (ident_of key) Inside value Unsaid)
 
 abbrev pub IsLower : List ℕ → Type 0
 IsLower bytes = str_to_ascii_lowercase bytes ≡ bytes

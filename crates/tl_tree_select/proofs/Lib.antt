@@ -1,4 +1,5 @@
 pub mod Ahead
+pub mod Attributes
 pub mod Backwards
 pub mod Compounds
 pub mod Contents

@@ -10,8 +10,10 @@ use Rattle.std.proofs.lemmas.List.{length-map}
 use Rattle.tl_css.specs.Selector as s
 use Rattle.tl_css.specs.Program.{selector_of}
 use Rattle.tl_css.specs.View.{test}
+use Rattle.tl_css.specs.declared.selector.Case.{Case}
 use Rattle.tl_css.specs.declared.selector.Op.{Op}
 use Rattle.tl_css.specs.declared.selector.Op.TheVariants.{Equals, Word}
+use Rattle.tl_css.specs.declared.selector.Space.TheVariants.{Bare}
 use Rattle.tl_css.specs.declared.selector.Step.{Step}
 use Rattle.tl_css.specs.declared.selector.Test.{Test}
 use Rattle.tl_names.proofs.ElementNames.{name_of_other, same_number}
@@ -165,15 +167,15 @@ module _ (page : Page) (t : s.Test) (n : ℕ) where
     λ h. as_test page (s.Class class) t n (sym is) (h.0, by_case page Word class (codes "class") n false page.is_quirks (sym exact) h.1),
   )
 
-  pub key_is : (key : s.Ident) → t ≡ s.Key key
+  pub key_is : (key : s.Ident) → t ≡ s.Key Bare key
       → Holds page (s.Is t) n ↔ (IsElement page n × HasValue page (λ own. ⊤) (spelled (is_html_at page n) key) n)
-  key_is key is = (λ h. as_test page t (s.Key key) n is h, λ h. as_test page (s.Key key) t n (sym is) h)
+  key_is key is = (λ h. as_test page t (s.Key Bare key) n is h, λ h. as_test page (s.Key Bare key) t n (sym is) h)
 
-  pub value_seen : (key : s.Ident) (op : Op) (value : List ℕ) (folds : Bool) → t ≡ s.Value key op value folds → Holds page (s.Is t) n
+  pub value_seen : (key : s.Ident) (op : Op) (value : List ℕ) (case : Case) → t ≡ s.Value Bare key op value case → Holds page (s.Is t) n
       → IsElement page n × HasValue page (λ own. ⊤) (spelled (is_html_at page n) key) n
-  value_seen key op value folds is h =
-      let own = as_test page t (s.Value key op value folds) n is h in
-      (own.0, weaker (PassesBy (folds || folds_at page key.lower n) op value) (λ own. ⊤) (value_of (spelled (is_html_at page n) key) (attributes_at page.rows n)) (λ own p. tt) own.1)
+  value_seen key op value case is h =
+      let own = as_test page t (s.Value Bare key op value case) n is h in
+      (own.0, weaker (PassesBy (s.folds_by case (folds_at page key.lower n)) op value) (λ own. ⊤) (value_of (spelled (is_html_at page n) key) (attributes_at page.rows n)) (λ own p. tt) own.1)
 
 -- the first test of a compound that passes
 pub first_passes : (page : Page) (n : ℕ) (steps : List Step) (t : Test) → Some t ≡ first_test steps → Holds page (s.Is (test t)) n → HoldBelow page steps n 1

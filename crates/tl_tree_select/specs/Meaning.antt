@@ -1,6 +1,6 @@
 -- Where a selector of CSS holds in a page: at elements.
-use Rattle.std.specs.Prelude.{◌≡◌, ◌≢◌, ◌↔◌, ◌⊎◌, ◌<◌, ◌≤◌, ◌+ℤ◌, ◌*ℤ◌, ◌&&◌, ◌||◌, ℕ, zero, suc, pos, Bool, true, false, if◌then◌else◌, List, [], ◌∷◌, ◌++◌, codes, length, slice_get, Option, Some, None, ⊤}
-use Rattle.std.specs.List.{All, AllPairs, Contains, slice_split}
+use Rattle.std.specs.Prelude.{◌≡◌, ◌≢◌, ◌↔◌, ◌⊎◌, ◌<◌, ◌≤◌, ◌+ℤ◌, ◌*ℤ◌, ◌&&◌, ℕ, zero, suc, pos, Bool, true, false, if◌then◌else◌, List, [], ◌∷◌, ◌++◌, codes, length, slice_get, Option, Some, None, ⊤}
+use Rattle.std.specs.List.{All, AllPairs, Any as AnyOf, Contains, slice_split}
 use Rattle.std.specs.Option.{IsSome, IsSomeAnd, is_some, option_and_then, option_map_or}
 use Rattle.std.specs.Str.{byte, str_to_ascii_lowercase}
 use Rattle.tl_css.specs.declared.selector.Anchor.{Anchor}
@@ -14,7 +14,9 @@ use Rattle.tl_css.specs.declared.selector.Reach.TheVariants.{Once, Often}
 use Rattle.tl_css.specs.declared.selector.Way.{Way}
 use Rattle.tl_css.specs.declared.selector.Way.TheVariants.{From, To}
 use Rattle.tl_css.specs.declared.selector.Formula.{Formula}
-use Rattle.tl_css.specs.Selector.{Ident, Test, Any, Name, Id, Class, Key, Value, Empty, May, Css, Is, Not, Both, Either, At, Nth}
+use Rattle.tl_css.specs.declared.selector.Space.{Space}
+use Rattle.tl_css.specs.declared.selector.Space.TheVariants.{Bare, Every}
+use Rattle.tl_css.specs.Selector.{folds_by, Ident, Test, Any, Name, Id, Class, Key, Value, Empty, May, Css, Is, Not, Both, Either, At, Nth}
 use Rattle.tl_css.specs.Bytes.{is_white}
 use Rattle.tl_dom_spec.specs.Tables.{no_bytes}
 use Rattle.tl_dom_spec.specs.Tags as dom
@@ -111,6 +113,12 @@ module _ (page : Page) where
   abbrev pub HasValue : (List ℕ → Type 0) → List ℕ → ℕ → Type 0
   HasValue P key n = IsSomeAnd (value_of key (attributes_at page.rows n)) P
 
+  -- the same of an attribute of a key in one of these namespaces
+  abbrev pub HasAttribute : (List ℕ → Type 0) → Space → List ℕ → ℕ → Type 0
+  HasAttribute P Bare key n = HasValue P key n
+  HasAttribute P Every key n = AnyOf
+      (λ (a : dom.Attribute). (a.key ≡ key) × P a.value) (attributes_at page.rows n)
+
   -- whether the case of a value is folded though no flag says so
   abbrev pub folds_at : List ℕ → ℕ → Bool
   folds_at key n = is_html_at n && is_among any_case_keys key
@@ -135,9 +143,10 @@ module _ (page : Page) where
   IsMet (Name name) n = IsNamed name n
   IsMet (Id id) n = HasValue (PassesBy page.is_quirks Equals id) (codes "id") n
   IsMet (Class class) n = HasValue (PassesBy page.is_quirks Word class) (codes "class") n
-  IsMet (Key key) n = HasValue (λ own. ⊤) (spelled (is_html_at n) key) n
-  IsMet (Value key op value folds) n =
-      HasValue (PassesBy (folds || folds_at key.lower n) op value) (spelled (is_html_at n) key) n
+  IsMet (Key space key) n = HasAttribute (λ own. ⊤) space (spelled (is_html_at n) key) n
+  IsMet (Value space key op value case) n =
+      HasAttribute (PassesBy (folds_by case (folds_at key.lower n)) op value) space
+      (spelled (is_html_at n) key) n
   IsMet Empty n = All IsNothing (children_at page.rows n)
   IsMet (May anchor) n = IsAnchor anchor n
 

@@ -1,7 +1,8 @@
 //! What is asked of a row by itself.
 ghost use Rattle.std.specs.Prelude.{◌≡◌, ◌↔◌, ◌&&◌, true};
-ghost use Rattle.tl_css.specs.Selector.{Ident as Name, Key};
+ghost use Rattle.tl_css.specs.Selector.{Ident as Name, Key, folds_by};
 ghost use Rattle.tl_css.specs.View.{ident};
+ghost use Rattle.tl_css.specs.declared.selector.Space.TheVariants.{Bare};
 ghost use Rattle.tl_names.specs.ElementNames.{name_of};
 ghost use Rattle.tl_tree_select.specs.Inner.Kin.{is_element_at};
 ghost use Rattle.tl_tree_select.specs.Inner.Looking.{HasNameNumber};
@@ -10,7 +11,7 @@ ghost use Rattle.tl_tree_select.specs.Page.{seen};
 
 use crate::any_case::is_any_case_key;
 use crate::page::Searched;
-use tl_css::selector::{Anchor, Ident};
+use tl_css::selector::{Anchor, Case, Ident};
 use tl_names::element_name::ElementName;
 use tl_tree::{Kind, Namespace};
 
@@ -92,10 +93,10 @@ pub fn has_name_number(page: &Searched<'_, '_>, number: usize, known: ElementNam
     }
 }
 
-/// Whether there is an element of a key.
+/// Whether there is an element of a key without a namespace.
 #[inline(always)]
 pub fn has_key(page: &Searched<'_, '_>, number: usize, key: &Ident) -> bool
-    ensures { (result ≡ true) ↔ IsMet (seen page.now) (Key (ident key.now)) number }
+    ensures { (result ≡ true) ↔ IsMet (seen page.now) (Key Bare (ident key.now)) number }
 {
     match page.tree.value(number, spelled_at(page, number, key)) {
         Some(_) => true,
@@ -129,9 +130,20 @@ pub fn is_anchor_at(page: &Searched<'_, '_>, number: usize, anchor: Anchor) -> b
     }
 }
 
-/// Whether the case of the value at a key is folded there.
-pub fn folds_at(page: &Searched<'_, '_>, number: usize, key: &[u8]) -> bool
+// Whether the case of the value at a key is folded there, where no flag says so.
+fn folds_at(page: &Searched<'_, '_>, number: usize, key: &[u8]) -> bool
     ensures { result ≡ folds_at (seen page.now) key.now number }
 {
     is_html_at(page, number) && is_any_case_key(key)
+}
+
+/// Whether the case of the value at a key is folded there.
+pub fn folds_value(page: &Searched<'_, '_>, number: usize, key: &[u8], case: Case) -> bool
+    ensures { result ≡ folds_by case (folds_at (seen page.now) key.now number) }
+{
+    match case {
+        Case::Unsaid => folds_at(page, number, key),
+        Case::Folded => true,
+        Case::Exact => false,
+    }
 }

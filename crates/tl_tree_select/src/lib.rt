@@ -2,6 +2,7 @@
 #![tactic(auto)]
 
 mod any_case;
+mod attribute;
 mod columns;
 mod compound;
 mod element;

@@ -11,7 +11,7 @@ use crate::element::{has_key, has_name_number, is_element_at, may_be_named};
 use crate::links::is_marked;
 use crate::page::Searched;
 use crate::value::is_word;
-use tl_css::selector::{Ident, Test};
+use tl_css::selector::{Ident, Space, Test};
 use tl_names::element_name::ElementName;
 
 /// What a row has, seen quickly, where it is one that is looked for.
@@ -112,8 +112,8 @@ impl<'l> Look<'l> {
             Test::Id(id) => (Look::Id(id), true),
             Test::Class(class) if is_quirks => (Look::Value(b"class", class.len()), false),
             Test::Class(class) => (Look::Class(class), true),
-            Test::Key(key) => (Look::Key(key), true),
-            Test::Value(key, _, _, _) => (Look::Key(key), false),
+            Test::Key(Space::Bare, key) => (Look::Key(key), true),
+            Test::Value(Space::Bare, key, _, _, _) => (Look::Key(key), false),
             _ => (Look::Element, false),
         }
     }

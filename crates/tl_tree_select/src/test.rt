@@ -3,17 +3,19 @@ ghost use Rattle.std.specs.Prelude.{◌≡◌, ◌↔◌, IfOk, true};
 ghost use Rattle.std.specs.List.{All};
 ghost use Rattle.tl_css.specs.Selector.{Is, Value};
 ghost use Rattle.tl_css.specs.View.{ident, test as test_of};
+ghost use Rattle.tl_css.specs.declared.selector.Space.TheVariants.{Bare};
 ghost use Rattle.tl_tree.specs.Asked.{children_at};
 ghost use Rattle.tl_tree_select.specs.Meaning.{HasValue, Holds, IsMet, IsNothing, PassesBy};
 ghost use Rattle.tl_tree_select.specs.Page.{seen};
 
+use crate::attribute::{has_some_attribute, has_some_key};
 use crate::element::{
-    folds_at, has_key, is_anchor_at, is_element_at, is_named, is_nothing_at, spelled_at,
+    folds_value, has_key, is_anchor_at, is_element_at, is_named, is_nothing_at, spelled_at,
 };
 use crate::page::Searched;
 use crate::value::passes_value;
 use std::alloc::{AllocError, Global};
-use tl_css::selector::{Ident, Op, Test};
+use tl_css::selector::{Case, Ident, Op, Space, Test};
 
 // Whether all children of a row count for nothing.
 fn is_empty(page: &Searched<'_, '_>, number: usize) -> bool
@@ -46,7 +48,7 @@ fn has_value(
     }
 }
 
-// Whether the value of an attribute passes.
+// Whether the value of an attribute without a namespace passes.
 fn has_attribute(
     alloc: Global,
     page: &Searched<'_, '_>,
@@ -54,12 +56,12 @@ fn has_attribute(
     key: &Ident,
     op: Op,
     value: &[u8],
-    folds: bool,
+    case: Case,
 ) -> Result<bool, AllocError>
     ensures { IfOk result (λ has. (has ≡ true)
-        ↔ IsMet (seen page.now) (Value (ident key.now) op value.now folds) number) }
+        ↔ IsMet (seen page.now) (Value Bare (ident key.now) op value.now case) number) }
 {
-    let folds = folds || folds_at(page, number, &key.lower);
+    let folds = folds_value(page, number, &key.lower, case);
     match page.tree.value(number, spelled_at(page, number, key)) {
         Some(own) => passes_value(alloc, op, value, folds, own),
         None => Ok(false),
@@ -80,9 +82,13 @@ fn is_met(
         Test::Name(name) => Ok(is_named(page, number, name)),
         Test::Id(id) => has_value(alloc, page, number, b"id", Op::Equals, id),
         Test::Class(class) => has_value(alloc, page, number, b"class", Op::Word, class),
-        Test::Key(key) => Ok(has_key(page, number, key)),
-        Test::Value(key, op, value, folds) => {
-            has_attribute(alloc, page, number, key, *op, value, *folds)
+        Test::Key(Space::Bare, key) => Ok(has_key(page, number, key)),
+        Test::Key(Space::Every, key) => Ok(has_some_key(page, number, key)),
+        Test::Value(Space::Bare, key, op, value, case) => {
+            has_attribute(alloc, page, number, key, *op, value, *case)
+        }
+        Test::Value(Space::Every, key, op, value, case) => {
+            has_some_attribute(alloc, page, number, key, *op, value, *case)
         }
         Test::Empty => Ok(is_empty(page, number)),
         Test::May(anchor) => Ok(is_anchor_at(page, number, *anchor)),

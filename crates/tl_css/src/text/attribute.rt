@@ -1,13 +1,13 @@
 //! Attribute selectors.
 ghost use Rattle.std.specs.Prelude.{◌≡◌, option_map};
-ghost use Rattle.tl_css.specs.Attribute.{attribute_at, after_key, begins_namespace, close_at, flag_at, key_at, match_at, op_at, op_of, string_by, value_at};
+ghost use Rattle.tl_css.specs.Attribute.{attribute_at, after_key, close_at, flag_at, key_at, match_at, op_at, op_of, space_at, string_by, value_at};
 ghost use Rattle.tl_css.specs.Lexical.{run_at, ident_run};
 ghost use Rattle.tl_css.specs.Read.{after_byte};
 ghost use Rattle.tl_css.specs.TextView.{read_as, rest_as};
 ghost use Rattle.tl_css.specs.SimpleView.{run_text, test_text};
 
 use crate::error::{Cause, Wrong};
-use crate::selector::Op;
+use crate::selector::{Case, Op, Space};
 use crate::text::gap::{gap, wrong};
 use crate::text::run::{begins_name, is_word, name, past_run};
 
@@ -25,8 +25,8 @@ pub enum TestText<'a> {
     Name(&'a [u8]),
     Id(&'a [u8]),
     Class(&'a [u8]),
-    Key(&'a [u8]),
-    Value(&'a [u8], Op, Run<'a>, bool),
+    Key(Space, &'a [u8]),
+    Value(Space, &'a [u8], Op, Run<'a>, Case),
     Empty,
 }
 
@@ -39,23 +39,27 @@ pub fn after_byte(byte: u8, s: &[u8]) -> Option<&[u8]>
     }
 }
 
-fn begins_namespace(s: &[u8]) -> bool
-    ensures { result ≡ begins_namespace s.now }
+// The namespaces that a key is looked for in, and where its name begins.
+fn space(s: &[u8]) -> (Space, &[u8])
+    ensures { (result.0, result.1.now) ≡ space_at s.now }
 {
     match s {
-        [b'|', ..] => true,
-        [b'*', rest @ ..] => after_byte(b'|', rest).is_some(),
-        _ => false,
+        [b'|', rest @ ..] => (Space::Bare, rest),
+        [b'*', rest @ ..] => match after_byte(b'|', rest) {
+            Some(rest) => (Space::Every, rest),
+            None => (Space::Bare, s),
+        },
+        _ => (Space::Bare, s),
     }
 }
 
-fn key(s: &[u8]) -> Result<(&[u8], &[u8]), Wrong>
-    ensures { read_as (λ key. ident_run key.now) result ≡ key_at s.now }
+// A key that is not decoded yet, and the namespaces that it is looked for in.
+fn key(s: &[u8]) -> Result<((Space, &[u8]), &[u8]), Wrong>
+    ensures { read_as (λ key. (key.0, ident_run key.1.now)) result ≡ key_at s.now }
 {
-    if begins_namespace(s) {
-        return wrong(s, Cause::Namespace);
-    }
-    name(s)
+    let (space, s) = space(s);
+    let (key, rest) = name(s)?;
+    Ok(((space, key), rest))
 }
 
 // The op whose first byte this is, where a `=` follows.
@@ -130,18 +134,18 @@ fn value(opened: usize, s: &[u8]) -> Result<(Run<'_>, &[u8]), Wrong>
     ))
 }
 
-// Whether case is folded.
-fn flag(s: &[u8]) -> Result<(bool, &[u8]), Wrong>
-    ensures { read_as (λ folds. folds) result ≡ flag_at s.now }
+// How case counts.
+fn flag(s: &[u8]) -> Result<(Case, &[u8]), Wrong>
+    ensures { read_as (λ case. case) result ≡ flag_at s.now }
 {
     if !begins_name(s) {
-        return Ok((false, s));
+        return Ok((Case::Unsaid, s));
     }
     if is_word(s, b"i") {
-        return Ok((true, past_run(None, s)));
+        return Ok((Case::Folded, past_run(None, s)));
     }
     if is_word(s, b"s") {
-        return Ok((false, past_run(None, s)));
+        return Ok((Case::Exact, past_run(None, s)));
     }
     wrong(s, Cause::NoFlag)
 }
@@ -162,37 +166,39 @@ fn close(opened: usize, s: &[u8]) -> Result<&[u8], Wrong>
 // What stands after a key and an op.
 fn match_text<'a>(
     opened: usize,
+    space: Space,
     key: &'a [u8],
     op: Op,
     s: &'a [u8],
 ) -> Result<(TestText<'a>, &'a [u8]), Wrong>
-    ensures { read_as test_text result ≡ match_at opened (ident_run key.now) op s.now }
+    ensures { read_as test_text result ≡ match_at opened (space, ident_run key.now) op s.now }
 {
     let (_white, s) = gap(s)?;
     let (value, s) = value(opened, s)?;
     let (_white, s) = gap(s)?;
-    let (folds, s) = flag(s)?;
+    let (case, s) = flag(s)?;
     let (_white, s) = gap(s)?;
     let rest = close(opened, s)?;
-    Ok((TestText::Value(key, op, value, folds), rest))
+    Ok((TestText::Value(space, key, op, value, case), rest))
 }
 
 fn after_key<'a>(
     opened: usize,
+    space: Space,
     key: &'a [u8],
     s: &'a [u8],
 ) -> Result<(TestText<'a>, &'a [u8]), Wrong>
-    ensures { read_as test_text result ≡ after_key opened (ident_run key.now) s.now }
+    ensures { read_as test_text result ≡ after_key opened (space, ident_run key.now) s.now }
 {
     match s {
         [] => Err(Wrong {
             left: opened,
             cause: Cause::Unclosed,
         }),
-        [b']', rest @ ..] => Ok((TestText::Key(key), rest)),
+        [b']', rest @ ..] => Ok((TestText::Key(space, key), rest)),
         _ => {
             let (op, rest) = op(s)?;
-            match_text(opened, key, op, rest)
+            match_text(opened, space, key, op, rest)
         }
     }
 }
@@ -202,7 +208,7 @@ pub fn attribute(opened: usize, s: &[u8]) -> Result<(TestText<'_>, &[u8]), Wrong
     ensures { read_as test_text result ≡ attribute_at opened s.now }
 {
     let (_white, s) = gap(s)?;
-    let (key, s) = key(s)?;
+    let ((space, key), s) = key(s)?;
     let (_white, s) = gap(s)?;
-    after_key(opened, key, s)
+    after_key(opened, space, key, s)
 }

@@ -1,14 +1,16 @@
 //! What stands next in a selector text.
 ghost use Rattle.std.specs.Prelude.{◌≡◌};
-ghost use Rattle.tl_css.specs.Item.{begin_at, combinator_at, combinator_of, first_at, leading_at, next_at, next_by, part_at, simple_at, unexpected};
+ghost use Rattle.std.specs.Str.{byte};
+ghost use Rattle.tl_css.specs.Item.{begin_at, combinator_at, combinator_of, first_at, leading_at, next_at, next_by, part_at, simple_at, star_by, type_at, unexpected};
 ghost use Rattle.tl_css.specs.ItemView.{item};
 ghost use Rattle.tl_css.specs.Relative.{begins_combinator, led_at};
-ghost use Rattle.tl_css.specs.SimpleView.{simple};
+ghost use Rattle.tl_css.specs.Read.{after_byte};
+ghost use Rattle.tl_css.specs.SimpleView.{simple, test_text};
 ghost use Rattle.tl_css.specs.TextView.{read_as};
 
 use crate::error::{Cause, Wrong};
 use crate::selector::Anchor;
-use crate::text::attribute::{TestText, attribute};
+use crate::text::attribute::{TestText, after_byte, attribute};
 use crate::text::gap::{gap, wrong};
 use crate::text::pseudo_class::{Simple, Whole, pseudo};
 use crate::text::role::{Before, Combinator, Role};
@@ -62,12 +64,38 @@ fn simple_after(s: &[u8]) -> Result<(Simple<'_>, &[u8]), Wrong>
     wrong(s, unexpected(*first))
 }
 
+// What stands after the `|` of a type.
+fn local_type(s: &[u8]) -> Result<(TestText<'_>, &[u8]), Wrong>
+    ensures { read_as test_text result ≡ type_at s.now }
+{
+    if let [b'*', rest @ ..] = s {
+        return Ok((TestText::Any, rest));
+    }
+    let (name, rest) = name(s)?;
+    Ok((TestText::Name(name), rest))
+}
+
+// What begins with a `*`, from after that on.
+fn after_star(s: &[u8]) -> Result<(Simple<'_>, &[u8]), Wrong>
+    ensures { read_as simple result ≡ star_by s.now (after_byte (byte "|") s.now) }
+{
+    let Some(rest) = after_byte(b'|', s) else {
+        return Ok((Simple::Whole(Whole::Test(TestText::Any)), s));
+    };
+    let (test, rest) = local_type(rest)?;
+    Ok((Simple::Whole(Whole::Test(test)), rest))
+}
+
 // A simple selector that may stand first.
 fn simple_first(s: &[u8]) -> Result<(Simple<'_>, &[u8]), Wrong>
     ensures { read_as simple result ≡ first_at s.now }
 {
     match s {
-        [b'*', rest @ ..] => Ok((Simple::Whole(Whole::Test(TestText::Any)), rest)),
+        [b'*', rest @ ..] => after_star(rest),
+        [b'|', rest @ ..] => {
+            let (_test, rest) = local_type(rest)?;
+            Ok((Simple::Whole(Whole::Nowhere), rest))
+        }
         _ if begins_name(s) => Ok((
             Simple::Whole(Whole::Test(TestText::Name(s))),
             past_run(None, s),

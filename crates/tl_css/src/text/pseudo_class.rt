@@ -22,6 +22,8 @@ pub enum Whole<'a> {
     Edge(Way, Link),
     Only(Link),
     Outermost(Anchor),
+    /// In no namespace: where no element stands.
+    Nowhere,
     Nth(Way, Link, Formula),
 }
 

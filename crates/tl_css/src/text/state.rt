@@ -67,12 +67,13 @@ fn decode_test(alloc: Global, own: TestText<'_>) -> Result<Test, AllocError>
         TestText::Name(name) => Test::Name(ident_text(alloc, name)?),
         TestText::Id(id) => Test::Id(run_text(alloc, None, id)?),
         TestText::Class(class) => Test::Class(run_text(alloc, None, class)?),
-        TestText::Key(key) => Test::Key(ident_text(alloc, key)?),
-        TestText::Value(key, op, Run { quote, text }, folds) => Test::Value(
+        TestText::Key(space, key) => Test::Key(space, ident_text(alloc, key)?),
+        TestText::Value(space, key, op, Run { quote, text }, case) => Test::Value(
+            space,
             ident_text(alloc, key)?,
             op,
             run_text(alloc, quote, text)?,
-            folds,
+            case,
         ),
         TestText::Empty => Test::Empty,
     })
@@ -143,6 +144,7 @@ fn with_whole(
             meet_if(edge(first, Way::To, link)?.meet()?, begun)
         }
         Whole::Outermost(anchor) => meet_if(outermost(program, anchor)?, begun),
+        Whole::Nowhere => meet_if(program.ask(Test::Any)?.turn()?, begun),
         Whole::Nth(way, link, formula) => {
             meet_if(program.ask(Test::Any)?.count(way, link, formula)?, begun)
         }

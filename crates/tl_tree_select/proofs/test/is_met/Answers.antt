@@ -1,7 +1,9 @@
-use Rattle.std.proofs.Common.{◌≡◌, ◌↔◌, List, IfOk, ap, codes, subst, true, ℕ}
+use Rattle.std.proofs.Common.{◌≡◌, ◌↔◌, ◌∙◌, List, IfOk, ap, codes, rules, subst, true, ℕ}
 use Rattle.tl_css.specs.Selector as s
 use Rattle.tl_css.specs.View.{ident, test}
 use Rattle.tl_css.specs.declared.selector.Op.TheVariants.{Word}
+use Rattle.tl_css.specs.declared.selector.Space.{Space}
+use Rattle.tl_css.specs.declared.selector.Space.TheVariants.{Bare, Every}
 use Rattle.tl_tree_select.specs.Meaning.{HasValue, IsMet, PassesBy}
 use Rattle.tl_tree_select.specs.Page.{seen}
 use Rattle.tl_tree_select.proofs.Tests.{met_as}
@@ -16,12 +18,25 @@ returns-in-Class c =
     met_as page n (test c.args.test.now) (s.Class class) r (HasValue page (PassesBy page.is_quirks Word class) (codes "class") n) (ap test c.in-Class.is) (λ h. h, λ h. h)
     (subst (λ (v : List ℕ). IfOk r (λ has. (has ≡ true) ↔ HasValue page (PassesBy page.is_quirks Word v) (codes "class") n)) c.deref-in-Class.ensures.value c.has_value-in-Class.ensures)
 
-pub returns-in-Value : goal.returns-in-Value
-returns-in-Value c =
+pub returns-in-Value-Bare-default-default-default-default : goal.returns-in-Value-Bare-default-default-default-default
+returns-in-Value-Bare-default-default-default-default c =
     let page = seen c.args.page.now in
     let n = c.args.number in
-    let key = ident c.in-Value.key in
-    let u = s.Value key c.in-Value.op c.in-Value.value.items c.in-Value.folds in
+    let own = c.in-Value-Bare-default-default-default-default in
+    let asked = s.Value Bare (ident own.key) own.op own.value.items own.case in
+    let is : test c.args.test.now ≡ asked = search rules in
     let r = c.has_attribute.result in
-    met_as page n (test c.args.test.now) u r (IsMet page u n) (ap test c.in-Value.is) (λ h. h, λ h. h)
-    (subst (λ (v : List ℕ). IfOk r (λ has. (has ≡ true) ↔ IsMet page (s.Value key c.in-Value.op v c.in-Value.folds) n)) c.deref-in-Value.ensures.value c.has_attribute.ensures)
+    met_as page n (test c.args.test.now) asked r (IsMet page asked n) is (λ h. h, λ h. h)
+    (subst (λ (v : List ℕ). IfOk r (λ has. (has ≡ true) ↔ IsMet page (s.Value Bare (ident own.key) own.op v own.case) n)) c.deref-in-Value-Bare-default-default-default-default.ensures.value c.has_attribute.ensures)
+
+pub returns-in-Value-Every-default-default-default-default : goal.returns-in-Value-Every-default-default-default-default
+returns-in-Value-Every-default-default-default-default c =
+    let page = seen c.args.page.now in
+    let n = c.args.number in
+    let own = c.in-Value-Every-default-default-default-default in
+    let asked = s.Value Every (ident own.key) own.op own.value.items own.case in
+    let space : own.field-0 ≡ Every = search rules in
+    let is = ap test own.is ∙ ap (λ (space : Space). s.Value space (ident own.key) own.op own.value.items own.case) space in
+    let r = c.has_some_attribute.result in
+    met_as page n (test c.args.test.now) asked r (IsMet page asked n) is (λ h. h, λ h. h)
+    (subst (λ (v : List ℕ). IfOk r (λ has. (has ≡ true) ↔ IsMet page (s.Value Every (ident own.key) own.op v own.case) n)) c.deref-in-Value-Every-default-default-default-default.ensures.value c.has_some_attribute.ensures)
