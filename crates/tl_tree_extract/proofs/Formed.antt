@@ -1,10 +1,10 @@
 -- A table that is formed row by row.
-use Rattle.std.proofs.Common.{List, [], ap, arith, drop, get_or, length, subst, suc, sym, ℕ, ◌*◌, ◌+◌, ◌<◌, ◌∙◌, ◌≡◌, ◌≤◌}
+use Rattle.std.proofs.Common.{List, ap, arith, drop, get_or, length, subst, suc, sym, ℕ, ◌*◌, ◌+◌, ◌<◌, ◌∙◌, ◌≡◌, ◌≤◌}
 use Rattle.std.proofs.Math.Nat.{mul-le-mul_left}
 use Rattle.std.proofs.Math.Seq.{drop-cons}
 use Rattle.tl_tree.specs.Rows.{Row}
 use Rattle.tl_tree_extract.proofs.Lengths.{formed_wider}
-use Rattle.tl_tree_extract.specs.Table.{Forming, cell_names, children_named, form_rows, place_cells, table_of, table_rows}
+use Rattle.tl_tree_extract.specs.Table.{Forming, begun, cell_names, children_named, form_rows, place_cells, table_of, table_rows}
 use Rattle.tl_tree_extract.specs.declared.tables.TableRow.{TableRow}
 
 -- a row more
@@ -25,15 +25,15 @@ module _ (rows : List Row) (n : ℕ) (items : List TableRow) (none : TableRow) (
 
   -- the table is as wide as it is with the row, and has all rows
   pub formed_over : (table limit count : ℕ) → items ≡ table_rows rows table → count ≡ length items
-      → form_rows rows n (drop n items) f ≡ form_rows rows 0 items (record { width = 0; cells = [] })
+      → form_rows rows n (drop n items) f ≡ form_rows rows 0 items (begun rows table)
       → limit < count * (with_row rows n (get_or items n none) f).width → limit < length (table_of rows table).rows * (table_of rows table).width
   formed_over table limit count all counted before over =
       let next : Forming = with_row rows n (get_or items n none) f in
       let wider = formed_wider rows (suc n) (drop (suc n) items) next in
-      let same : form_rows rows (suc n) (drop (suc n) items) next ≡ form_rows rows 0 items (record { width = 0; cells = [] }) = sym row_first ∙ before in
+      let same : form_rows rows (suc n) (drop (suc n) items) next ≡ form_rows rows 0 items (begun rows table) = sym row_first ∙ before in
       let whole = ap (λ (h : Forming). h.width) same in
-      let wide : next.width ≤ (form_rows rows 0 items (record { width = 0; cells = [] })).width = omega (arith, wider, whole) in
+      let wide : next.width ≤ (form_rows rows 0 items (begun rows table)).width = omega (arith, wider, whole) in
       let more = mul-le-mul_left count wide in
-      let slots : limit < length items * (form_rows rows 0 items (record { width = 0; cells = [] })).width =
-      subst (λ (k : ℕ). limit < k * (form_rows rows 0 items (record { width = 0; cells = [] })).width) counted (omega (arith, over, more)) in
-      subst (λ (trs : List TableRow). limit < length trs * (form_rows rows 0 trs (record { width = 0; cells = [] })).width) all slots
+      let slots : limit < length items * (form_rows rows 0 items (begun rows table)).width =
+      subst (λ (k : ℕ). limit < k * (form_rows rows 0 items (begun rows table)).width) counted (omega (arith, over, more)) in
+      subst (λ (trs : List TableRow). limit < length trs * (form_rows rows 0 trs (begun rows table)).width) all slots

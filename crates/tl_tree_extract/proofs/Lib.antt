@@ -13,3 +13,4 @@ pub mod Slots
 pub mod Rising
 pub mod Lengths
 pub mod Formed
+pub mod Marked

@@ -5,11 +5,12 @@ use Rattle.std.proofs.lemmas.List.{append_assoc}
 use Rattle.std.specs.Option.{unwrap_or}
 use Rattle.std.specs.Prelude.{max}
 use Rattle.tl_tree.specs.Asked.{ancestors_at, end_at}
+use Rattle.tl_tree.specs.Below.{ends_at}
 use Rattle.tl_tree.specs.Rows.{Row}
 use Rattle.tl_tree_extract.proofs.Flows.{written-append}
 use Rattle.tl_tree_extract.specs.Boxes.{box_at, display_at, is_hidden}
 use Rattle.tl_tree_extract.specs.Flowing.{Item, after_item, after_items, an_end, written}
-use Rattle.tl_tree_extract.specs.Readable.{behind_of, ended_of, ended_outside, ends_at, items_from, items_up_to, kept_of, opened_of}
+use Rattle.tl_tree_extract.specs.Readable.{behind_of, ended_of, ended_outside, items_from, items_up_to, kept_of, opened_of}
 use Rattle.tl_tree_extract.specs.declared.text.display.Display.{Display}
 use Rattle.tl_tree_extract.specs.declared.text.flow.Flow.{Flow}
 

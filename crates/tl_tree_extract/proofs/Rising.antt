@@ -3,7 +3,7 @@ use Rattle.std.proofs.Common.{List, [], arith, length, subst, suc, ℕ, ◌+◌,
 use Rattle.std.specs.Prelude.{◌-◌}
 use Rattle.tl_tree.specs.Rows.{Row}
 use Rattle.tl_tree_extract.specs.Inner.Slots.{AreRising}
-use Rattle.tl_tree_extract.specs.Table.{Forming, cell_at, cell_names, children_named, form_rows, free_from, place_cells, table_of, table_rows, with_cell}
+use Rattle.tl_tree_extract.specs.Table.{Forming, begun, cell_at, cell_names, children_named, form_rows, free_from, place_cells, table_of, table_rows, with_cell}
 use Rattle.tl_tree_extract.specs.declared.tables.Cell.{Cell}
 use Rattle.tl_tree_extract.specs.declared.tables.TableRow.{TableRow}
 
@@ -34,4 +34,4 @@ pub table_rising : (rows : List Row) (table : ℕ) → AreRising 0 (length (tabl
 table_rising rows table =
     let whole : 0 + length (table_rows rows table) ≡ length (table_rows rows table) = omega arith in
     subst (λ (n : ℕ). AreRising 0 n (table_of rows table).cells) whole
-    (formed rows 0 (table_rows rows table) (record { width = 0; cells = [] }) (omega arith))
+    (formed rows 0 (table_rows rows table) (begun rows table) (omega arith))

@@ -4,15 +4,19 @@ use Rattle.std.specs.Prelude.{Bool, List, [], codes, flat_map, map, if◌then◌
 use Rattle.tl_dom_spec.specs.HtmlForest.{HtmlForest, element, no_trees}
 use Rattle.tl_dom_spec.specs.HtmlTree.{html_tree_by, standard}
 use Rattle.tl_dom_spec.specs.Tags.{html_tag}
-use Rattle.tl_tree.specs.Rows.{rows_of}
+use Rattle.tl_tree.specs.Rows.{Row, rows_of}
 use Rattle.tl_tree_extract.specs.Fields.{record_written}
 use Rattle.tl_tree_extract.specs.Links.{parts_of}
+use Rattle.tl_tree_extract.specs.NodeOutline.{node_outline}
 use Rattle.tl_tree_extract.specs.Outline.{outline_of}
 use Rattle.tl_tree_extract.specs.Readable.{readable_below, readable_rows}
+use Rattle.tl_tree_extract.specs.Sheet.{table_written}
 use Rattle.tl_tree_extract.specs.Spans.{Part}
 use Rattle.tl_tree_extract.specs.Table.{Forming, place_cells}
 use Rattle.tl_tree_extract.specs.declared.column.Columns.{Columns}
+use Rattle.tl_tree_extract.specs.declared.column.Columns.TheVariants.{Tabs}
 use Rattle.tl_tree_extract.specs.declared.fields.Field.{Field}
+use Rattle.tl_tree_extract.specs.declared.sheet.Spans.TheVariants.{Filled}
 use Rattle.tl_tree_extract.specs.declared.tables.Cell.{Cell}
 use Rattle.tl_tree_extract.specs.declared.tables.TableRow.{TableRow}
 use Rattle.tl_tree_extract.specs.declared.url_keys.UrlKind.{UrlKind}
@@ -72,6 +76,19 @@ two_rows cells first second =
     let none : Forming = record { width = 0; cells = [] } in
     flat_map cell_shown
     (place_cells rows row 1 second 0 (place_cells rows row 0 first 0 none)).cells
+
+-- the rows of a page
+abbrev pub page_rows : String → List Row
+page_rows page = rows_of (html_tree_by standard (codes page)).trees
+
+-- the slots of a table, which is the node behind `html`, `head` and `body`, each with the words of
+-- the cell that has it
+abbrev pub slots : String → List ℕ
+slots page = table_written Tabs Filled (page_rows page) 3
+
+-- the nodes of a page on lines, with their numbers or without
+abbrev pub nodes : Bool → String → List ℕ
+nodes has_numbers page = node_outline has_numbers (page_rows page)
 
 -- the headings of a page
 abbrev pub outline : String → List ℕ

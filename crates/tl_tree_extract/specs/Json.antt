@@ -9,14 +9,13 @@ use Rattle.std.specs.Str.Lossy.{utf8_lossy}
 use Rattle.tl_dom_spec.specs.Tags as dom
 use Rattle.tl_html_spec.specs.Doctypes.{Doctype}
 use Rattle.tl_tree.specs.Asked.{ancestors_at, attributes_at, end_at, name_of, namespace_of, node_at}
-use Rattle.tl_tree.specs.Below.{has_kind, text_content}
+use Rattle.tl_tree.specs.Below.{ends_at, has_kind, text_content}
 use Rattle.tl_tree.specs.Rows.{Node, Row, a_comment, a_doctype, a_text, an_element, contents}
 use Rattle.tl_tree.specs.declared.entries.Namespace.{Namespace}
 use Rattle.tl_tree.specs.declared.entries.Namespace.TheVariants.{Html, Math, Svg}
 use Rattle.tl_tree.specs.declared.kind.Kind.{Kind}
 use Rattle.tl_tree.specs.declared.kind.Kind.TheVariants as kinds
 use Rattle.tl_tree.specs.declared.source.Source.{Source}
-use Rattle.tl_tree_extract.specs.Readable.{ends_at}
 use Rattle.tl_tree_extract.specs.declared.json_form.JsonForm.{JsonForm}
 use Rattle.tl_tree_extract.specs.declared.json_form.JsonForm.TheVariants.{Flat, Nested}
 

@@ -1,7 +1,7 @@
 -- Names and strings as CSS writes them.
 use Rattle.std.specs.Prelude.{ℕ, ◌/◌, ◌%◌, Bool, ◌||◌, ◌==◌, List, [], ◌∷◌, ◌++◌, flat_map, nat_le, nat_lt, if◌then◌else◌}
 use Rattle.std.specs.Char.{is_ascii_alphanumeric, is_ascii_digit}
-use Rattle.tl_html_spec.specs.Coded.{digit_in, digits}
+use Rattle.tl_html_spec.specs.Digits.{digit_in, digits}
 
 -- letters, digits, `-`, `_` and bytes above ASCII stand for themselves in a name
 abbrev pub is_plain : ℕ → Bool

@@ -4,6 +4,7 @@ use Rattle.std.specs.List.{list_any}
 use Rattle.std.specs.Option.{option_map, unwrap_or}
 use Rattle.std.specs.Prelude.{Bool, List, [], false, if◌then◌else◌, length, max, nat_le, nat_lt, suc, true, zero, ℕ, ◌+◌, ◌-◌, ◌&&◌, ◌++◌, ◌==◌, ◌∷◌}
 use Rattle.tl_tree.specs.Asked.{ancestors_at, end_at, node_at}
+use Rattle.tl_tree.specs.Below.{ends_at}
 use Rattle.tl_tree.specs.Rows.{Node, Row, a_text, an_element}
 use Rattle.tl_tree_extract.specs.Boxes.{box_at, display_at, is_hidden, keeps_lines}
 use Rattle.tl_tree_extract.specs.Flowing.{Item, a_begin, an_end, at_begin, text_items, written}
@@ -33,9 +34,6 @@ behind_of rows display number =
     if is_hidden display
     then max (number + 1) (unwrap_or (end_at rows number) 0)
     else number + 1
-
-abbrev pub ends_at : List Row → ℕ → ℕ → Bool
-ends_at rows number next = unwrap_or (option_map (λ end. end == next) (end_at rows number)) false
 
 -- the elements that a row is in and that end before the next row, from the inside outwards, up to
 -- the first row

@@ -25,6 +25,16 @@ body_names = words "tbody thead"
 unfoldable pub foot_names : List (List ℕ)
 foot_names = words "tfoot"
 
+-- rows and row groups: before the first one stand the columns
+unfoldable pub body_or_row_names : List (List ℕ)
+body_or_row_names = words "tbody tfoot thead tr"
+
+unfoldable pub column_group_names : List (List ℕ)
+column_group_names = words "colgroup"
+
+unfoldable pub column_names : List (List ℕ)
+column_names = words "col"
+
 abbrev pub children_named : List (List ℕ) → List Row → ℕ → List ℕ
 children_named names rows number = filter (is_named_at names rows) (children_at rows number)
 
@@ -94,6 +104,36 @@ bottom_said (Some n) number end = if n == 0 then end else min (number + min 6553
 abbrev pub last_column : ℕ
 last_column = 4294967295
 
+-- Columns
+
+-- so many columns, with those that an element stands for
+abbrev pub with_columns : List Row → ℕ → ℕ → ℕ
+with_columns rows width number =
+    min (width + columns_said (number_at (codes "span") rows number)) last_column
+
+-- with those that each of some elements stands for
+abbrev pub with_each : List Row → ℕ → List ℕ → ℕ
+with_each rows width [] = width
+with_each rows width (number ∷ more) = with_each rows (with_columns rows width number) more
+
+-- "column groups": with the columns of its `col`s; a group without one stands for columns itself
+abbrev pub with_group : List Row → ℕ → ℕ → ℕ
+with_group rows width group =
+    if list_any (is_named_at column_names rows) (children_at rows group)
+    then with_each rows width (children_named column_names rows group)
+    else with_columns rows width group
+
+-- with those of the column groups that stand before all rows and row groups
+abbrev pub with_groups : List Row → ℕ → List ℕ → ℕ
+with_groups rows width [] = width
+with_groups rows width (child ∷ more) =
+    if is_named_at body_or_row_names rows child then width
+    else with_groups rows
+    (if is_named_at column_group_names rows child
+    then with_group rows width child
+    else width)
+    more
+
 -- Cells
 
 -- a cell covers the slot of a column and a row
@@ -145,6 +185,13 @@ form_rows rows number (row ∷ more) f =
     form_rows rows (suc number) more
     (place_cells rows row number (children_named cell_names rows row.node) 0 f)
 
+-- before its rows are processed a table has the columns of its column groups
+abbrev pub begun : List Row → ℕ → Forming
+begun rows table = record {
+  width = with_groups rows 0 (children_at rows table);
+  cells = [];
+}
+
 -- a table: its columns, its rows from above, and its cells in their order
 pub record TableModel : Type 0 where
   pub width : ℕ
@@ -157,7 +204,7 @@ table_said t = record { width = t.width; rows = t.rows.items; cells = t.cells.it
 abbrev pub table_of : List Row → ℕ → TableModel
 table_of rows table =
     let trs = table_rows rows table in
-    let f = form_rows rows 0 trs (record { width = 0; cells = [] }) in
+    let f = form_rows rows 0 trs (begun rows table) in
     record { width = f.width; rows = trs; cells = f.cells }
 
 -- the cell that a slot has: where several cover it, the first of them

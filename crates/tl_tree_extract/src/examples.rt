@@ -1,10 +1,12 @@
 //! Worked rows: numbers, URLs of values as `start:URL`, cells as `left-right,top-bottom`,
 //! lines with `/` for a line feed and `_` for a tab.
 
-ghost use Rattle.std.specs.Prelude.{◌≡◌, ◌∷◌, [], None, Some, codes};
+ghost use Rattle.std.specs.Prelude.{◌≡◌, ◌∷◌, [], None, Some, codes, false, true};
 ghost use Rattle.tl_dom_spec.specs.HtmlForest.{no_trees};
-ghost use Rattle.tl_tree_extract.specs.Examples.{a_cell, outline, record_of, shown, two_rows, urls};
+ghost use Rattle.tl_tree_extract.specs.Examples.{a_cell, nodes, outline, page_rows, record_of, shown, slots, two_rows, urls};
 ghost use Rattle.tl_tree_extract.specs.Fields.{value_written};
+ghost use Rattle.tl_tree_extract.specs.Marks.{comments_below, comments_of, marks_of};
+ghost use Rattle.tl_tree_extract.specs.NodeOutline.{has_line};
 ghost use Rattle.tl_tree_extract.specs.Numbers.{non_negative};
 ghost use Rattle.tl_tree_extract.specs.declared.column.Columns.TheVariants.{Commas, Tabs};
 ghost use Rattle.tl_tree_extract.specs.declared.fields.Field.TheVariants.{Name, Text};
@@ -43,6 +45,59 @@ pub fn cells_in_slots()
         (0 ∷ 1 ∷ []) [] ≡ codes "0-1,0-3; 1-2,0-3; " }
     ensures overlap { two_rows (a_cell "1" "1" (a_cell "1" "2" (a_cell "2" "1" no_trees)))
         (0 ∷ 1 ∷ []) (2 ∷ []) ≡ codes "0-1,0-1; 1-2,0-2; 0-2,1-2; " }
+{}
+
+/// The slots of tables: each with the words of the cell that has it.
+#[tactic(auto, unfolding(crate::specs::Table::row_names, crate::specs::Table::cell_names, crate::specs::Table::body_names, crate::specs::Table::foot_names, crate::specs::Table::body_or_row_names, crate::specs::Table::column_group_names, crate::specs::Table::column_names))]
+pub fn slots_of_tables()
+    ensures cells { slots "<table><tr><td>a<td>b<tr><td>c" ≡ shown "a_b/c_/" }
+    ensures columns { slots "<table><tr><td colspan=2>a<td>b<tr><td>c<td>d" ≡ shown "a_a_b/c_d_/" }
+    ensures rows { slots "<table><tr><td rowspan=2>a<td>b<tr><td>c" ≡ shown "a_b/a_c/" }
+    ensures both { slots "<table><tr><td colspan=2 rowspan=2>a<tr><td>b" ≡ shown "a_a_/a_a_b/" }
+    ensures to_the_end { slots "<table><tr><td rowspan=0>a<td>b<tr><td>c<tbody><tr><td>d"
+        ≡ shown "a_b/a_c/d_/" }
+    ensures no_row_is_made { slots "<table><tr><td rowspan=9>a<td>b<tr><td>c" ≡ shown "a_b/a_c/" }
+    ensures overlap { slots "<table><tr><td>a<td rowspan=2>b<tr><td colspan=2>c"
+        ≡ shown "a_b/c_b/" }
+    ensures foot { slots "<table><tfoot><tr><td>a<tbody><tr><td>b" ≡ shown "b/a/" }
+    ensures no_number { slots "<table><tr><td colspan=x>a<td colspan=0>b" ≡ shown "a_b/" }
+    ensures no_row { slots "<table>" ≡ shown "" }
+{}
+
+/// Columns of column groups, which may have no cells.
+#[tactic(auto, unfolding(crate::specs::Table::row_names, crate::specs::Table::cell_names, crate::specs::Table::body_names, crate::specs::Table::foot_names, crate::specs::Table::body_or_row_names, crate::specs::Table::column_group_names, crate::specs::Table::column_names))]
+pub fn slots_of_columns()
+    ensures columns { slots "<table><col><col><col><tr><td>a" ≡ shown "a__/" }
+    ensures span { slots "<table><col><col span=2><tr><td>a" ≡ shown "a__/" }
+    ensures group { slots "<table><colgroup span=2><tr><td>a" ≡ shown "a_/" }
+    ensures group_with_a_column { slots "<table><colgroup span=3><col><tr><td>a" ≡ shown "a/" }
+    ensures fewer_than_cells { slots "<table><col><tr><td>a<td>b" ≡ shown "a_b/" }
+    ensures behind_a_row { slots "<table><tr><td>a</tbody><col><col><tr><td>b" ≡ shown "a/b/" }
+    ensures no_number { slots "<table><col span=x><col span=0><tr><td>a" ≡ shown "a_/" }
+{}
+
+/// Nodes on lines.
+#[tactic(auto, unfolding(crate::specs::NodeOutline::shown_line, crate::specs::NodeOutline::shown_keys))]
+pub fn nodes_on_lines()
+    ensures nested { nodes false "<p>a<br>"
+        ≡ codes "html\n  head\n  body\n    p\n      \"a\"\n      br\n" }
+    ensures keys { nodes false "<a class='b  c' href=/y title=t id=x>"
+        ≡ codes "html\n  head\n  body\n    a#x.b.c[href=\"/y\"]\n" }
+    ensures others { nodes false "<!doctype html><!-- a\nb -->"
+        ≡ codes "<!DOCTYPE html>\n<!-- a -->\nhtml\n  head\n  body\n" }
+    ensures contents { nodes false "<template>a"
+        ≡ codes "html\n  head\n    template\n      #document-fragment\n        \"a\"\n  body\n" }
+    ensures white_space { nodes false "<p> " ≡ codes "html\n  head\n  body\n    p\n" }
+    ensures no_line { has_line false (page_rows "<p> ") 4 ≡ false }
+    ensures white_space_has_a_number { has_line true (page_rows "<p> ") 4 ≡ true }
+{}
+
+/// Comments, and marks.
+pub fn comments_and_marks()
+    ensures all { comments_of (page_rows "<!--a--><p><!--b--><template><!--c-->")
+        ≡ 0 ∷ 5 ∷ 8 ∷ [] }
+    ensures below { comments_below (page_rows "<!--a--><p><!--b--></p><!--c-->") 4 ≡ 5 ∷ [] }
+    ensures marks { marks_of (1 ∷ 7 ∷ 1 ∷ []) 3 ≡ false ∷ true ∷ false ∷ [] }
 {}
 
 /// Headings.

@@ -33,12 +33,13 @@ fn pop_up_to(ahead: &mut Vec<Cell>, column: u32) -> Option<Cell>
 }
 
 impl Forming {
-    pub fn new(alloc: Global) -> Forming
-        ensures said { forming_said result ≡ record { width = 0; cells = [] } }
+    /// A table of so many columns, without a cell.
+    pub fn new(alloc: Global, width: u32) -> Forming
+        ensures said { forming_said result ≡ record { width = width; cells = [] } }
         ensures stands { StandsBefore result 0 }
     {
         Forming {
-            width: 0,
+            width,
             cells: Vec::new(alloc),
             passed: Vec::new(alloc),
             ahead: Vec::new(alloc),

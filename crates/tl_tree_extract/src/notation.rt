@@ -1,6 +1,6 @@
 //! Names and strings as CSS writes them.
 ghost use Rattle.std.specs.Prelude.{◌≡◌, ◌<◌, ◌++◌, flat_map, OnOk};
-ghost use Rattle.tl_html_spec.specs.Coded.{digit_in, digits};
+ghost use Rattle.tl_html_spec.specs.Digits.{digit_in, digits};
 ghost use Rattle.tl_tree_extract.specs.Notation.{css_name, css_string, escape_of, first_byte, is_control, is_plain, name_byte, number_escape, string_byte};
 
 use std::alloc::AllocError;

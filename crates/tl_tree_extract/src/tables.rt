@@ -10,6 +10,7 @@ ghost use Rattle.tl_tree_extract.specs.declared.table_error.TableError.TheVarian
 use crate::forming::Forming;
 use crate::named::is_named_at;
 use crate::number::non_negative;
+use crate::table_columns::first_width;
 use crate::table_error::TableError;
 use std::alloc::{AllocError, Global};
 use tl_tree::Tree;
@@ -185,12 +186,12 @@ fn number_at(tree: &Tree<'_>, number: usize, key: &[u8]) -> Option<u32>
     non_negative(tree.value(number, key)?)
 }
 
-// How many columns a cell spans.
+/// How many columns an element spans, by an attribute.
 #[tactic(auto, using(crate::proofs::Numbers::columns_cut))]
-fn columns_of(tree: &Tree<'_>, cell: usize) -> u32
-    ensures { result ≡ columns_said (number_at (codes "colspan") (rows_in tree.now) cell) }
+pub(crate) fn columns_of(tree: &Tree<'_>, number: usize, key: &[u8]) -> u32
+    ensures { result ≡ columns_said (number_at key.now (rows_in tree.now) number) }
 {
-    match number_at(tree, cell, b"colspan") {
+    match number_at(tree, number, key) {
         None | Some(0) => 1,
         Some(span) => span.min(1000),
     }
@@ -216,7 +217,7 @@ fn cell_at(tree: &Tree<'_>, row: TableRow, number: usize, cell: usize, column: u
     Cell {
         node: cell,
         left: column,
-        right: column.saturating_add(columns_of(tree, cell)),
+        right: column.saturating_add(columns_of(tree, cell, b"colspan")),
         top: number,
         bottom: bottom_of(tree, cell, number, row.group_end),
     }
@@ -304,7 +305,7 @@ pub(crate) fn table_within(
         (limit < usize.MAX) × (limit < length t.rows * t.width) }
 {
     let rows = table_rows(alloc, tree, table)?;
-    let mut forming = Forming::new(alloc);
+    let mut forming = Forming::new(alloc, first_width(tree, table));
     for (number, row) in rows.iter().enumerate() {
         form_row(&mut forming, tree, *row, number, rows.len(), limit)?;
     }

@@ -2,10 +2,11 @@
 ghost use Rattle.std.specs.Option.{option_map, unwrap_or};
 ghost use Rattle.std.specs.Prelude.{IfOk, OnOk, [], false, if◌then◌else◌, max, true, ◌+◌, ◌++◌, ◌<◌, ◌^◌, ◌∷◌, ◌≡◌};
 ghost use Rattle.tl_tree.specs.Asked.{ancestors_at, end_at, node_at};
+ghost use Rattle.tl_tree.specs.Below.{ends_at};
 ghost use Rattle.tl_tree.specs.TreeView.{rows_in};
 ghost use Rattle.tl_tree_extract.specs.Boxes.{is_hidden, keeps_lines};
 ghost use Rattle.tl_tree_extract.specs.Flowing.{after_items, an_end, written};
-ghost use Rattle.tl_tree_extract.specs.Readable.{behind_of, ended_of, ended_outside, ends_at, is_kept_at, kept_of, opened_of, readable};
+ghost use Rattle.tl_tree_extract.specs.Readable.{behind_of, ended_of, ended_outside, is_kept_at, kept_of, opened_of, readable};
 
 use crate::text::display::{Display, box_of, display_of};
 use crate::text::flow::Flow;

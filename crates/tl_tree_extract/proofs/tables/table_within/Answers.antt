@@ -1,9 +1,9 @@
-use Rattle.std.proofs.Common.{List, [], arith, length, rules, subst, suc, sym, ℕ, ◌+◌, ◌<◌, ◌∙◌, ◌≡◌}
+use Rattle.std.proofs.Common.{List, arith, length, rules, subst, suc, sym, ℕ, ◌+◌, ◌<◌, ◌∙◌, ◌≡◌}
 use Rattle.tl_tree.specs.Rows.{Row}
 use Rattle.tl_tree.specs.TreeView.{rows_in}
 use Rattle.tl_tree_extract.proofs.Formed.{formed_next, formed_over}
 use Rattle.tl_tree_extract.specs.Inner.Open.{StandsBefore, forming_said}
-use Rattle.tl_tree_extract.specs.Table.{form_rows}
+use Rattle.tl_tree_extract.specs.Table.{begun, form_rows}
 use Rattle.tl_tree_extract.specs.declared.tables.TableRow.{TableRow}
 use Rattle.tl_tree_extract.proofs.tables.table_within.Goals as goal
 
@@ -18,7 +18,7 @@ loop-number-preserved c =
     record {
       stands = subst (λ (m : ℕ). StandsBefore c.form_row.new.forming m) behind c.in_ok-form_row.ensures.stands;
       said = formed_next rows n items none (forming_said c.loop-number.forming) within (forming_said c.form_row.new.forming)
-          (form_rows rows 0 items (record { width = 0; cells = [] })) c.loop-number.invariant.said c.in_ok-form_row.ensures.said;
+          (form_rows rows 0 items (begun rows c.args.table)) c.loop-number.invariant.said c.in_ok-form_row.ensures.said;
     }
 
 pub returns-in_err-form_row-clause-long : goal.returns-in_err-form_row-clause-long

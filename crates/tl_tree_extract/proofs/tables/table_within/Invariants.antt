@@ -1,7 +1,7 @@
-use Rattle.std.proofs.Common.{◌≡◌, [], drop}
+use Rattle.std.proofs.Common.{◌≡◌, drop}
 use Rattle.tl_tree.specs.TreeView.{rows_in}
 use Rattle.tl_tree_extract.specs.Inner.Open.{StandsBefore, forming_said}
-use Rattle.tl_tree_extract.specs.Table.{form_rows}
+use Rattle.tl_tree_extract.specs.Table.{begun, form_rows}
 use Rattle.tl_tree_extract.proofs.tables.table_within.Given as goal
 
 -- what is formed, with the rows that are left, is what is formed of all of them
@@ -11,5 +11,5 @@ invariant-loop-number l =
     record {
       stands : StandsBefore l.forming l.number;
       said : form_rows rows l.number (drop l.number l.row-items) (forming_said l.forming)
-          ≡ form_rows rows 0 l.row-items (record { width = 0; cells = [] });
+          ≡ form_rows rows 0 l.row-items (begun rows l.table);
     }
