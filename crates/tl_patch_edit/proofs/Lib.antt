@@ -21,3 +21,4 @@ pub mod Open
 pub mod Missing
 pub mod Refusals
 pub mod Misread
+pub mod Reaches

@@ -8,3 +8,5 @@ pub mod Open
 pub mod Errors
 pub mod Kept
 pub mod Inner
+pub mod Stretches
+pub mod Examples

@@ -7,8 +7,8 @@ ghost use Rattle.tl_patch_edit.specs.View.{extent_view};
 
 use crate::element_name::may_lack_end_tag;
 use std::alloc::{AllocError, Global};
+use tl_html_parts::lower_name;
 use tl_html_tokens::Token;
-use tl_html_write::lower_name;
 use tl_patch_elements::Element;
 
 /// What is put into a page.

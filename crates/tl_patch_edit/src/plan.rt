@@ -11,7 +11,7 @@ use crate::ask::{
 };
 use crate::element_name::{is_page_name, may_be_renamed};
 use std::alloc::{AllocError, Global};
-use tl_html_write::lower_name;
+use tl_html_parts::lower_name;
 
 // One ask alone.
 fn one<'n>(from: usize, until: usize, put: Put<'n>) -> Planned<'n>

@@ -21,9 +21,8 @@ use crate::edit::tag_name;
 use crate::error::EditError;
 use crate::part::{Part, part_at};
 use std::alloc::{AllocError, Global};
-use tl_html_parts::characters;
+use tl_html_parts::{characters, lower_name};
 use tl_html_tokens::{Mode, Token, TokenKind};
-use tl_html_write::lower_name;
 
 // From where on a browser may read a raw text as markup: the number of the first start tag of
 // `svg` and its like, or of the end. And where no raw text is left that has a `&` or a `<`.

@@ -16,8 +16,8 @@ use crate::part::{Part, place_at};
 use crate::put::is_data;
 use crate::ready::escaped_for;
 use std::alloc::{AllocError, Global};
+use tl_html_parts::lower_name;
 use tl_html_tokens::TokenKind;
-use tl_html_write::lower_name;
 use tl_patch::{is_name, with_end_name, with_name};
 
 // The end tag of a name.

@@ -17,9 +17,8 @@ ghost use Rattle.tl_patch_edit.specs.Inner.Tails.{IsEndFor, IsTailFrom, IsTailPa
 
 use crate::part::{Part, part_at};
 use std::alloc::{AllocError, Global};
-use tl_html_parts::{characters, tag_parts};
+use tl_html_parts::{characters, lower_name, tag_parts};
 use tl_html_tokens::{Mode, Token, TokenKind};
-use tl_html_write::lower_name;
 use tl_patch_elements::{Element, PageElements, elements};
 
 // What a part of a page is to its tail: an end tag, what stands between and behind them, or what no
@@ -157,7 +156,7 @@ fn with_part(tail: Tail, part: TailPart, place: usize) -> Tail
 }
 
 // The tail of a page.
-fn tail_of(alloc: Global, page: &[u8], tokens: &[Token]) -> Result<Tail, AllocError>
+pub(crate) fn tail_of(alloc: Global, page: &[u8], tokens: &[Token]) -> Result<Tail, AllocError>
     requires { AreTokensOf page.now tokens.now }
     ensures { IfOk result (λ tail. IsTailFrom 0 (runs (pieces page.now)) tail) }
 {

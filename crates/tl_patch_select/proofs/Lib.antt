@@ -1,2 +1,6 @@
+pub mod Bounded
+pub mod Crossing
 pub mod Places
 pub mod Reasons
+pub mod Sources
+pub mod Worked

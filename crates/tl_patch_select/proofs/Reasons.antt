@@ -1,6 +1,8 @@
 -- Why an edit is refused.
-use Rattle.std.proofs.Common.{◌≡◌, List, ℕ}
-use Rattle.std.specs.Prelude.{Err, Result}
+use Rattle.std.proofs.Common.{List, None, Option, Some, subst, ℕ, ◌≡◌}
+use Rattle.std.proofs.lemmas.Option.{MatchOption-at_none, MatchOption-at_some}
+use Rattle.std.specs.List.{All}
+use Rattle.std.specs.Prelude.{Err, IfNone, IfSome, Result}
 use Rattle.tl_css.specs.Selector.{Css}
 use Rattle.tl_patch.specs.PatchView.{PlacedChange}
 use Rattle.tl_patch.specs.Refused.{IsPlaced, IsReason, IsUnplaced}
@@ -17,7 +19,11 @@ use Rattle.tl_patch_select.specs.Errors.{error_of_edit, error_of_patch}
 use Rattle.tl_patch_select.specs.Patched.{changes_at}
 use Rattle.tl_patch_select.specs.Reasons.{IsElementReason, IsTagReason}
 use Rattle.tl_patch_select.specs.Selected.{AreSelected}
+use Rattle.tl_patch_select.specs.Whole.{IsNotWhole, IsOneCrossed, IsWhole}
+use Rattle.tl_patch_select.specs.declared.whole.Crossed.{Crossed}
 use Rattle.tl_tree.specs.declared.tree.Tree.{Tree}
+use Rattle.tl_tree_select.specs.Meaning.{AreFound}
+use Rattle.tl_tree_select.specs.Page.{page_of}
 
 -- what the call that changes tags says of each error
 pub record SaysOfTags {T : Type 0} (page : List ℕ) (changes : List PlacedChange) (r : Result T PatchError) : Type 0 where
@@ -50,3 +56,16 @@ element_reason_of_edit e patch tree page places r (edit.Across p) selected is sa
 element_reason_of_edit e patch tree page places r (edit.Misread p by) selected is says = record { places = places; selected = selected; refused = says.misread p by is; reason = tt }
 element_reason_of_edit e patch tree page places r (edit.ReadOtherwise p) selected is says = record { places = places; selected = selected; refused = says.read_otherwise p is; reason = tt }
 element_reason_of_edit e patch tree page places r edit.OutOfMemory selected is says = tt
+
+-- the elements that are whole, and the one that isn't
+
+pub whole_selected : (page : List ℕ) (tree : Tree) (numbers same : List ℕ) (found : Option Crossed) → same ≡ numbers → found ≡ None → IfNone found (All (IsWhole page tree) same) → All (IsWhole page tree) numbers
+whole_selected page tree numbers same found e n h = subst (All (IsWhole page tree)) e (MatchOption-at_none _ _ n h)
+
+pub not_whole : (e : Css) (tree : Tree) (page numbers same : List ℕ) (found : Option Crossed) (crossed : Crossed) → AreFound (page_of tree) e numbers → same ≡ numbers → found ≡ Some crossed →
+    IfSome found (λ (c : Crossed). IsOneCrossed page tree same c.place c.at) → IsNotWhole e tree page crossed.place crossed.at
+not_whole e tree page numbers same found crossed are i n h = record {
+  numbers = numbers;
+  found = are;
+  one = subst (λ (xs : List ℕ). IsOneCrossed page tree xs crossed.place crossed.at) i (MatchOption-at_some _ _ crossed n h);
+}

@@ -1,5 +1,6 @@
 -- A page with the elements changed where a selector holds.
 use Rattle.std.specs.Prelude.{ℕ, List, None, length, ◌≡◌, ⊤}
+use Rattle.std.specs.List.{All}
 use Rattle.tl_css.specs.Selector.{Css}
 use Rattle.tl_patch_edit.specs.Errors.{IsRefused}
 use Rattle.tl_patch_edit.specs.Kept.{KeepRawTexts}
@@ -9,6 +10,7 @@ use Rattle.tl_patch_edit.specs.declared.error.EditError.TheVariants as edit
 use Rattle.tl_patch_spec.specs.Patches.{Patch}
 use Rattle.tl_patch_spec.specs.Together.{at_each}
 use Rattle.tl_patch_select.specs.Selected.{AreSelected, untagged_at}
+use Rattle.tl_patch_select.specs.Whole.{IsWhole}
 use Rattle.tl_tree.specs.declared.tree.Tree.{Tree}
 
 -- text is the page with this patch of each element of the tree where the selector holds, and of
@@ -17,6 +19,8 @@ pub record IsEditedWhere (e : Css) (patch : Patch) (tree : Tree) (page text plac
     Type 0 where
   pub selected : AreSelected e tree places
   pub tagged : untagged_at tree (length page) selected.numbers ≡ None
+  -- what is taken and put stands where the tree has it
+  pub whole : All (IsWhole page tree) selected.numbers
   pub edited : AreEdited (at_each patch places) page text
   -- what may be read as markup is put into no raw text
   pub kept : KeepRawTexts (at_each patch places) page

@@ -7,6 +7,7 @@ use Rattle.tl_patch_spec.specs.TagChanges.{TagChange}
 use Rattle.tl_patch_select.specs.Edited.{IsRefusedWhere}
 use Rattle.tl_patch_select.specs.Patched.{IsChangeRefusedWhere, missing_tag}
 use Rattle.tl_patch_select.specs.Selected.{IsUntagged}
+use Rattle.tl_patch_select.specs.Whole.{IsNotWhole}
 use Rattle.tl_patch_select.specs.declared.edit_error.SelectionEditError.{SelectionEditError}
 use Rattle.tl_patch_select.specs.declared.edit_error.SelectionEditError.TheVariants as element
 use Rattle.tl_patch_select.specs.declared.error.SelectionPatchError.{SelectionPatchError}
@@ -35,4 +36,5 @@ IsTagReason e change tree page tag.OutOfMemory = ⊤
 abbrev pub IsElementReason : Css → Patch → Tree → List ℕ → SelectionEditError → Type 0
 IsElementReason e patch tree page (element.Refused error) = IsRefusedWhere e patch tree page error
 IsElementReason e patch tree page (element.Untagged at) = IsUntagged e tree (length page) at
+IsElementReason e patch tree page (element.NotWhole place at) = IsNotWhole e tree page place at
 IsElementReason e patch tree page element.OutOfMemory = ⊤

@@ -17,6 +17,11 @@ pub enum SelectionEditError {
     /// puts in before the first row: it was put in before what begins at this place.
     #[error("the element that is put in at byte {0} has no tag")]
     Untagged(usize),
+    /// The element whose start tag begins at the first place isn't whole, so that it can be changed
+    /// by its tag alone: what begins at the second one stands in the bytes that it has by its end
+    /// tags, and not in it in the tree that browsers build, or the other way round.
+    #[error("the element at byte {0} isn't whole: what begins at byte {1} is in it by its tags or to browsers, and not by both")]
+    NotWhole(usize, usize),
     /// Memory ran out.
     #[error("out of memory")]
     OutOfMemory,

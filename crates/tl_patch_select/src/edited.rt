@@ -7,16 +7,20 @@ ghost use Rattle.tl_patch_select.specs.Reasons.{IsElementReason};
 use crate::edit_error::SelectionEditError;
 use crate::patched::Patched;
 use crate::selected::Selected;
+use crate::whole::find_crossed;
 use std::alloc::Global;
 use tl_css::Selector;
 use tl_patch_edit::{ElementPatch, patch_elements};
 use tl_tree::Tree;
 
 /// The page with this patch of each element where the selector holds, and of no other byte. The
-/// selector is asked of the tree of the page. An element in what another takes away goes with it.
-/// Where the selector holds nowhere, this is the page, with no places. What a browser may read as
-/// markup is refused: a text with `&` or `<` in a `style`, `script` or other raw text behind an
-/// `svg` or its like, and such a name for an element before such raw texts.
+/// selector is asked of the tree of the page. Each of these elements has to be whole: what comes of
+/// the bytes that it has by its end tags stands in it, and nothing else does. An element in what
+/// another takes away goes with it. Where the selector holds nowhere, this is the page, with no
+/// places. What a browser may read as markup is refused: a text with `&` or `<` in a `style`,
+/// `script` or other raw text behind an `svg` or its like, and such a name for an element before
+/// such raw texts.
+#[tactic(auto, using(crate::proofs::Reasons::not_whole))]
 pub fn edit_selected(
     alloc: Global,
     page: &[u8],
@@ -32,6 +36,10 @@ pub fn edit_selected(
     let selected = Selected::of(alloc, tree, selector)?;
     if let Some(at) = selected.untagged_at(tree, page.len()) {
         return Err(SelectionEditError::Untagged(at));
+    }
+    let found = find_crossed(alloc, page, tree, selected.numbers.as_slice())?;
+    if let Some(crossed) = found {
+        return Err(SelectionEditError::NotWhole(crossed.place, crossed.at));
     }
     let Selected {
         numbers: _numbers,

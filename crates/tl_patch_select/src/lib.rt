@@ -4,8 +4,11 @@
 mod edit_error;
 mod edited;
 mod error;
+pub mod examples;
 mod patched;
+mod ranges;
 mod selected;
+mod whole;
 
 pub use edit_error::SelectionEditError;
 pub use edited::edit_selected;

@@ -13,7 +13,7 @@ use tl_tree::Tree;
 use tl_tree_select::select;
 
 // Where in the page begins what a node comes from.
-fn place_of(tree: &Tree<'_>, number: usize) -> Option<usize>
+pub(crate) fn place_of(tree: &Tree<'_>, number: usize) -> Option<usize>
     ensures { result ≡ place_of tree.now number }
 {
     let source = tree.source(number)?;

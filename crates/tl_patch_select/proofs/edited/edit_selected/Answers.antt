@@ -6,7 +6,7 @@ use Rattle.tl_patch_spec.specs.Patches.{Patch}
 use Rattle.tl_patch_spec.specs.Together.{at_each}
 use Rattle.tl_patch_select.specs.Errors.{error_of_edit}
 use Rattle.tl_patch_select.specs.Selected.{AreSelected}
-use Rattle.tl_patch_select.proofs.Reasons.{SaysOfElements, element_reason_of_edit}
+use Rattle.tl_patch_select.proofs.Reasons.{SaysOfElements, element_reason_of_edit, whole_selected}
 use Rattle.tl_patch_select.proofs.edited.edit_selected.Goals as goal
 
 pub returns-clause-edited : goal.returns-clause-edited
@@ -14,8 +14,8 @@ returns-clause-edited c =
     let page : List ℕ = c.args.page.now in
     let text : List ℕ = c.in_ok-bytes.bytes.items in
     let patch : Patch = patch_view c.args.patch in
-    let made : AreEdited (at_each patch c.as_slice.result.now) page text = search rules in
-    let kept : KeepRawTexts (at_each patch c.as_slice.result.now) page = search rules in
+    let made : AreEdited (at_each patch c.as_slice-2.result.now) page text = search rules in
+    let kept : KeepRawTexts (at_each patch c.as_slice-2.result.now) page = search rules in
     record {
       selected = record {
         numbers = c.in_ok-selected.selected.numbers.items;
@@ -23,8 +23,9 @@ returns-clause-edited c =
         are_places = c.in_ok-selected.ensures.places;
       };
       tagged = search rules;
-      edited = subst (λ (places : List ℕ). AreEdited (at_each patch places) page text) c.as_slice.ensures.value made;
-      kept = subst (λ (places : List ℕ). KeepRawTexts (at_each patch places) page) c.as_slice.ensures.value kept;
+      whole = whole_selected page c.args.tree.now _ c.as_slice.result.now c.in_ok-found.found c.as_slice.ensures.value (search rules) c.in_ok-found.ensures.whole;
+      edited = subst (λ (places : List ℕ). AreEdited (at_each patch places) page text) c.as_slice-2.ensures.value made;
+      kept = subst (λ (places : List ℕ). KeepRawTexts (at_each patch places) page) c.as_slice-2.ensures.value kept;
     }
 
 pub returns-in_err-bytes-clause-refused : goal.returns-in_err-bytes-clause-refused
@@ -32,7 +33,7 @@ returns-in_err-bytes-clause-refused c =
     let page : List ℕ = c.args.page.now in
     let places : List ℕ = c.in_ok-selected.selected.places.items in
     let patch : Patch = patch_view c.args.patch in
-    let says : SaysOfElements page (at_each patch c.as_slice.result.now) c.patch_elements.result = record {
+    let says : SaysOfElements page (at_each patch c.as_slice-2.result.now) c.patch_elements.result = record {
       no_start = λ p q. search (rules, q);
       not_meant = λ p q. search (rules, q);
       past_end = λ p q. search (rules, q);
@@ -48,4 +49,4 @@ returns-in_err-bytes-clause-refused c =
     } in
     let is : c.from_residual-in_err-bytes.result ≡ Err (error_of_edit c.in_err-bytes.field-0.0) = search rules in
     rw is (element_reason_of_edit c.args.selector.now patch c.args.tree.now page places c.patch_elements.result c.in_err-bytes.field-0.0 selected c.in_err-bytes.was
-    (subst (λ (places : List ℕ). SaysOfElements page (at_each patch places) c.patch_elements.result) c.as_slice.ensures.value says))
+    (subst (λ (places : List ℕ). SaysOfElements page (at_each patch places) c.patch_elements.result) c.as_slice-2.ensures.value says))

@@ -1,0 +1,7 @@
+use Rattle.std.proofs.Common.{rules}
+use Rattle.std.proofs.lemmas.List.Sorted.{IsNonDecreasingBy-from_sort_by_key}
+use Rattle.tl_patch_select.specs.declared.ranges.Keyed.{Keyed}
+use Rattle.tl_patch_select.proofs.ranges.sort.Goals as goal
+
+pub returns-clause-rising : goal.returns-clause-rising
+returns-clause-rising c = IsNonDecreasingBy-from_sort_by_key (λ (x : Keyed). x.key) _ c.in_ok-sort_by_key.ensures.sorted (λ a r q k. search rules)

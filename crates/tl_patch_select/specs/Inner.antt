@@ -1,0 +1,3 @@
+-- What the proofs and private functions of this crate cite, and no public clause.
+pub mod Ranges
+pub mod Sources
