@@ -249,7 +249,7 @@ enum {
     TL_LARGE_NUMBER = 8,     /* this number is above 2147483647 */
     TL_NO_PSEUDO_CLASS = 9,  /* no pseudo-class has this name */
     TL_PSEUDO_ELEMENT = 10,  /* pseudo-elements are no tags */
-    TL_NAMESPACE = 11,       /* namespaces aren't known */
+    TL_NAMESPACE = 11,       /* no prefix of a namespace is known */
     TL_NEEDS_ARGUMENT = 12,  /* the pseudo-class needs an argument in brackets */
     TL_TAKES_NONE = 13,      /* the pseudo-class takes no argument */
     TL_TOO_DEEP = 14,        /* so many selectors wait here for those inside them that this one is too much */
@@ -269,7 +269,7 @@ static inline const char *tl_cause_text(uint8_t cause) {
     case TL_LARGE_NUMBER: return "the number is above 2147483647";
     case TL_NO_PSEUDO_CLASS: return "no such pseudo-class";
     case TL_PSEUDO_ELEMENT: return "a pseudo-element is no tag";
-    case TL_NAMESPACE: return "namespaces are not known here";
+    case TL_NAMESPACE: return "no prefix of a namespace is known here";
     case TL_NEEDS_ARGUMENT: return "an argument in brackets is missing";
     case TL_TAKES_NONE: return "this pseudo-class takes no argument";
     case TL_TOO_DEEP: return "too many selectors inside one another";
@@ -283,6 +283,7 @@ static inline const char *tl_cause_text(uint8_t cause) {
     case 22: return "what is put can't stand there";
     case 23: return "a browser may read a raw text as markup there";
     case 24: return "this element has no tag in the page: browsers put it in here";
+    case 25: return "what begins here is in this element by its tags or to browsers, and not by both";
     default: return "no cause";
     }
 }
@@ -360,22 +361,24 @@ enum {
 };
 
 /* Why elements can't be changed so, beside the causes above; the place is that of the element in the page, also with
- * TL_READ_OTHERWISE. */
+ * TL_READ_OTHERWISE, but with TL_NOT_WHOLE that of what crosses it. */
 enum {
-    TL_NOT_MEANT = 19,   /* the element isn't closed, is a tag alone, isn't whole (what is in it went elsewhere, or comes from
-                            elsewhere, as of formatting that is opened again), or it is a body or html, after which nothing can
-                            stand */
+    TL_NOT_MEANT = 19,   /* the element isn't closed, is a tag alone, or it is a body or html, after which nothing can stand */
     TL_ACROSS = 20,      /* its change and that of another element cut across each other */
     TL_END_OF_PAGE = 21, /* what is put would stand behind the end of the page; none does */
     TL_NO_CONTENT = 22,  /* what is put can't stand there: markup in a raw text, or a text that would be read otherwise */
-    TL_MISREAD = 23      /* a browser may read as markup a text with `&` or `<` in a `style`, `script` and the like, as it stands
+    TL_MISREAD = 23,     /* a browser may read as markup a text with `&` or `<` in a `style`, `script` and the like, as it stands
                             behind a `svg`, `math`, `frameset`, `template`, `noscript` or `select`: such a text would be put
                             there, or the element would get such a name before such a text */
+    TL_NOT_WHOLE = 25    /* an element isn't whole, so its tag alone can be changed (tl_patch_css): what begins at the place stands in
+                            the bytes that it has by its end tags, and not in it in the tree that browsers build, or the other way
+                            round, as a `p` in an `svg`, or formatting that is opened again */
 };
 
 /* The page with each element changed where a selector of CSS holds, and with each other byte as it was. The selector is asked of the tree
- * that browsers build, and that says which bytes an element has; what is read of the answer is the page with just that changed. An element in what another takes away goes with it. `form` is read with
- * a content from TL_REPLACE on; the content of TL_REMOVE and TL_UNWRAP isn't read, and its length may be 0. Where the selector holds
+ * that browsers build. The end tags of the page say which bytes an element has, and it has to be whole: what comes of these bytes is in it
+ * in the tree, and nothing else is. What is read of the answer is the page with just that changed. An element in what another takes away
+ * goes with it. `form` is read with a content from TL_REPLACE on; the content of TL_REMOVE and TL_UNWRAP isn't read, and its length may be 0. Where the selector holds
  * nowhere the answer is the page. Where the bytes are no selector, or an element can't be changed, that is refused, and `*place` and
  * `*cause` say why; else both are 0. */
 tl_status tl_edit_css(uint8_t edit, uint8_t form, const uint8_t *selector, size_t selector_len,

@@ -246,6 +246,9 @@ static void of_elements(void) {
     CHECK(is_told(5, TL_UNTAGGED));
     LEAVES(TL_REFUSED, 0, EDIT(TL_REMOVE, 0, "b", "", "<svg><title><b></title></svg>"));
     CHECK(is_told(12, TL_NO_START_TAG));
+    LEAVES(TL_REFUSED, 0, EDIT(TL_REMOVE, 0, "svg", "", "<svg><p>x</p></svg>y"));
+    CHECK(is_told(8, TL_NOT_WHOLE));
+    PUTS("<svg></svg>y", EDIT(TL_REMOVE, 0, "p", "", "<svg><p>x</p></svg>y"));
     PUTS("<p>xy", EDIT(TL_APPEND, TL_AS_TEXT, "p", "y", "<p>x"));
     LEAVES(TL_NOT_UNDERSTOOD, 0, EDIT(9, TL_AS_TEXT, "p", "a", "<P>x</P>"));
     LEAVES(TL_NOT_UNDERSTOOD, 0, EDIT(TL_FILL, 2, "p", "a", "<P>x</P>"));

@@ -373,6 +373,9 @@ class Elements(unittest.TestCase):
         with self.assertRaises(ChangeError) as it:
             edit("<svg><style>a</style></svg>", "style", "fill", text="<")
         self.assertEqual((it.exception.place, it.exception.cause), (5, 23))
+        with self.assertRaises(ChangeError) as it:
+            edit("<svg><p>x</p></svg>y", "svg", "remove")
+        self.assertEqual((it.exception.place, it.exception.cause), (8, 25))
         with self.assertRaises(SelectorError):
             edit(self.page, "p:hover", "remove")
         for what, words in (

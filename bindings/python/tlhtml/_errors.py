@@ -12,7 +12,7 @@ CAUSES = {
     8: "the number is above 2147483647",
     9: "no such pseudo-class",
     10: "a pseudo-element is no tag",
-    11: "namespaces are not known here",
+    11: "no prefix of a namespace is known here",
     12: "an argument in brackets is missing",
     13: "this pseudo-class takes no argument",
     14: "too many selectors inside one another",
@@ -26,6 +26,7 @@ CAUSES = {
     22: "what is put can't stand there",
     23: "a browser may read a raw text as markup there",
     24: "this element has no tag in the page: browsers put it in here",
+    25: "what begins here is in this element by its tags or to browsers, and not by both",
 }
 
 REASONS = {

@@ -99,8 +99,8 @@ causes! {
     NoPseudoClass = 9, "no such pseudo-class";
     /// Pseudo-elements are no tags.
     PseudoElement = 10, "a pseudo-element is no tag";
-    /// Namespaces aren't known.
-    Namespace = 11, "namespaces are not known here";
+    /// No prefix of a namespace is known.
+    Namespace = 11, "no prefix of a namespace is known here";
     /// The pseudo-class needs an argument in brackets.
     NeedsArgument = 12, "an argument in brackets is missing";
     /// The pseudo-class takes no argument.
@@ -115,8 +115,8 @@ causes! {
     NotWritten = 17, "this tag can't be changed so";
     /// The page would be read otherwise than asked.
     ReadOtherwise = 18, "the page would be read otherwise than asked";
-    /// The element isn't closed, is a tag alone, isn't whole (what is in it went elsewhere, or comes
-    /// from elsewhere), or it is a `body` or `html`, after which nothing can stand.
+    /// The element isn't closed, is a tag alone, or it is a `body` or `html`, after which nothing can
+    /// stand.
     NotMeant = 19, "this element can't be changed so: it isn't closed, or is a tag alone";
     /// The change of the element and that of another cut across each other.
     Across = 20, "this change and that of another element cut across each other";
@@ -130,4 +130,8 @@ causes! {
     Misread = 23, "a browser may read a raw text as markup there";
     /// The selector holds at an element that no tag stands for, as a `tbody` that browsers put in.
     Untagged = 24, "this element has no tag in the page: browsers put it in here";
+    /// An element isn't whole, so its tag alone can be changed: what begins here stands in the bytes
+    /// that it has by its end tags, and not in it in the tree that browsers build, or the other way
+    /// round.
+    NotWhole = 25, "what begins here is in this element by its tags or to browsers, and not by both";
 }

@@ -474,6 +474,11 @@ fn elements() {
         ),
         Err(Error::NotChanged { place, cause })
     );
+    let (place, cause) = (8, Cause::NotWhole);
+    assert_eq!(
+        edit("<svg><p>x</p></svg>y", "svg", Edit::Remove),
+        Err(Error::NotChanged { place, cause })
+    );
     let (place, cause) = (2, Cause::NoPseudoClass);
     assert_eq!(
         edit(page, "p:hover", Edit::Remove),

@@ -11,7 +11,8 @@ use Rattle.tl_tree.specs.Sources.{AreSourced, IsSourceOf, page_begin, source_at}
 use Rattle.tl_tree.specs.TreeView.{rows_in}
 use Rattle.tl_tree.specs.declared.source.Source.{Source}
 use Rattle.tl_tree.specs.declared.tree.Tree.{Tree}
-use Rattle.tl_c.specs.Readings.{IsOfPage, IsReadable, IsUnread, Reads}
+use Rattle.tl_c.specs.Readings.{IsReadable, IsUnread, Reads}
+use Rattle.tl_tree.specs.Pages.{IsOfPage}
 use Rattle.tl_c.specs.declared.parsed_page.ParsedPage.{ParsedPage}
 use Rattle.tl_c.proofs.Room.{number_of}
 

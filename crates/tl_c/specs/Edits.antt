@@ -6,11 +6,11 @@ use Rattle.tl_patch_edit.specs.declared.error.EditError.TheVariants as edit
 use Rattle.tl_patch_select.specs.Edited.{IsEditedWhere}
 use Rattle.tl_patch_select.specs.Reasons.{IsElementReason}
 use Rattle.tl_patch_select.specs.declared.edit_error.SelectionEditError.{SelectionEditError}
-use Rattle.tl_patch_select.specs.declared.edit_error.SelectionEditError.TheVariants.{OutOfMemory, Refused, Untagged}
+use Rattle.tl_patch_select.specs.declared.edit_error.SelectionEditError.TheVariants.{NotWhole, OutOfMemory, Refused, Untagged}
 use Rattle.tl_patch_spec.specs.Patches.{Append, Content, Fill, Markup, Patch, Prepend, PutAfter, PutBefore, Remove, RenameElement, ReplaceWith, Text, Unwrap}
 use Rattle.tl_c.specs.Css.{css_in}
 use Rattle.tl_c.specs.Puts.{Puts}
-use Rattle.tl_c.specs.Readings.{IsOfPage}
+use Rattle.tl_tree.specs.Pages.{IsOfPage}
 use Rattle.tl_tree.specs.declared.tree.Tree.{Tree}
 
 -- the content that bytes are, as a number says
@@ -64,9 +64,10 @@ number_of_edit_error (Refused (edit.Misread place cause)) = 23
 number_of_edit_error (Refused (edit.ReadOtherwise place)) = 18
 number_of_edit_error (Refused edit.OutOfMemory) = 0
 number_of_edit_error (Untagged at) = 24
+number_of_edit_error (NotWhole place at) = 25
 number_of_edit_error OutOfMemory = 0
 
--- where in the page the element begins, 0 where there is none
+-- where in the page the element begins, or what crosses it, 0 where there is none
 abbrev pub place_of_edit_error : SelectionEditError → ℕ
 place_of_edit_error (Refused (edit.NoStartTag place)) = place
 place_of_edit_error (Refused (edit.NotMeant place)) = place
@@ -77,12 +78,14 @@ place_of_edit_error (Refused (edit.Misread place cause)) = place
 place_of_edit_error (Refused (edit.ReadOtherwise place)) = place
 place_of_edit_error (Refused edit.OutOfMemory) = 0
 place_of_edit_error (Untagged at) = at
+place_of_edit_error (NotWhole place at) = at
 place_of_edit_error OutOfMemory = 0
 
 -- an error that is told by its number and its place, and not by the status
 abbrev pub IsEditRefusal : SelectionEditError → Type 0
 IsEditRefusal (Refused error) = ⊤
 IsEditRefusal (Untagged at) = ⊤
+IsEditRefusal (NotWhole place at) = ⊤
 IsEditRefusal _ = ⊥
 
 -- this patch of the elements where the selector that bytes are holds is refused, where and why the

@@ -9,7 +9,7 @@ use Rattle.tl_patch_select.specs.declared.error.SelectionPatchError.TheVariants.
 use Rattle.tl_patch_spec.specs.TagChanges.{Set, TagChange, Unset}
 use Rattle.tl_c.specs.Css.{css_in}
 use Rattle.tl_c.specs.Puts.{Puts}
-use Rattle.tl_c.specs.Readings.{IsOfPage}
+use Rattle.tl_tree.specs.Pages.{IsOfPage}
 use Rattle.tl_tree.specs.declared.tree.Tree.{Tree}
 
 -- the change that a number asks for

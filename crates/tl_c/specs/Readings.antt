@@ -1,24 +1,15 @@
 -- Pages that are read into their trees.
 use Rattle.std.specs.Prelude.{◌≡◌, ◌⊎◌, ◌<◌, ℕ, true, List, Option, IsSomeAnd, ⊤}
-use Rattle.tl_dom_spec.specs.HtmlTree.{html_tree, is_in_proportion_by, standard}
+use Rattle.tl_dom_spec.specs.HtmlTree.{is_in_proportion_by, standard}
 use Rattle.tl_page.specs.Page.{IsPage}
 use Rattle.tl_page.specs.declared.failure.Failure.{Failure}
 use Rattle.tl_page.specs.declared.failure.Failure.TheVariants.{Refused, NotUnderstood, OutOfMemory, Fault}
-use Rattle.tl_tree.specs.Rows.{rows_of}
-use Rattle.tl_tree.specs.Sources.{AreSourced, page_begin}
-use Rattle.tl_tree.specs.TreeView.{rows_in}
-use Rattle.tl_tree.specs.declared.tree.Tree.{Tree}
+use Rattle.tl_tree.specs.Pages.{IsOfPage}
 use Rattle.tl_c.specs.declared.parsed_page.ParsedPage.{ParsedPage}
 
 -- a page that can be read: a text that isn't too long, and whose tree is in proportion to it
 abbrev pub IsReadable : List ℕ → Type 0
 IsReadable page = IsPage page × (is_in_proportion_by standard page ≡ true)
-
--- a tree is that of a page, read without scripts, and its nodes come from there in it
-pub record IsOfPage (page : List ℕ) (tree : Tree) : Type 0 where
-  pub rows : rows_in tree ≡ rows_of (html_tree page).trees
-  pub quirks : tree.is_quirks ≡ (html_tree page).is_quirks
-  pub sources : AreSourced page (page_begin standard page) tree
 
 -- why a page has no tree: what is not understood can't be read
 abbrev pub IsUnread : List ℕ → Failure → Type 0

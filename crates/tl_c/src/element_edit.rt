@@ -69,6 +69,7 @@ fn report(error: SelectionEditError, place: &mut usize, cause: &mut u8) -> Failu
         SelectionEditError::Refused(EditError::ReadOtherwise(at)) => (at, 18, Failure::Refused),
         SelectionEditError::Refused(EditError::OutOfMemory) => (0, 0, Failure::OutOfMemory),
         SelectionEditError::Untagged(at) => (at, 24, Failure::Refused),
+        SelectionEditError::NotWhole(_, at) => (at, 25, Failure::Refused),
         SelectionEditError::OutOfMemory => (0, 0, Failure::OutOfMemory),
     };
     *place = at;

@@ -2,7 +2,8 @@
 ghost use Rattle.std.specs.Prelude.{◌≡◌, ◌<◌, length, true, Err, IfErr, IfOk, IsUtf8, OnOk};
 ghost use Rattle.tl_dom_spec.specs.HtmlTree.{is_in_proportion_by, standard};
 ghost use Rattle.tl_page.specs.declared.failure.Failure.TheVariants.{NotUnderstood};
-ghost use Rattle.tl_c.specs.Readings.{IsOfPage, IsReadable, IsUnread};
+ghost use Rattle.tl_c.specs.Readings.{IsReadable, IsUnread};
+ghost use Rattle.tl_tree.specs.Pages.{IsOfPage};
 
 use crate::parsed_page::ParsedPage;
 use std::alloc::{AllocError, Global};

@@ -1,6 +1,6 @@
 use Rattle.std.proofs.Common.{◌≡◌, List, rules, subst, sym, ℕ}
 use Rattle.tl_tree.specs.declared.tree.Tree.{Tree}
-use Rattle.tl_c.specs.Readings.{IsOfPage}
+use Rattle.tl_tree.specs.Pages.{IsOfPage}
 use Rattle.tl_c.proofs.Readings.{owned}
 use Rattle.tl_c.proofs.reading.read.Goals as goal
 

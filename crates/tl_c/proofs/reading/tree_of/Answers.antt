@@ -1,6 +1,6 @@
 use Rattle.std.proofs.Common.{◌≡◌, List, rules, subst, ℕ}
 use Rattle.std.specs.Prelude.{IfOk}
-use Rattle.tl_c.specs.Readings.{IsOfPage}
+use Rattle.tl_tree.specs.Pages.{IsOfPage}
 use Rattle.tl_c.proofs.reading.tree_of.Goals as goal
 
 pub returns-clause-tree : goal.returns-clause-tree
