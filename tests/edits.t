@@ -390,21 +390,21 @@ In their files.
 
 What is refused.
 
-  $ printf '<div><b>x</div>y' >open
-  $ tl remove b open
+  $ printf '<div><q>x</div>y' >open
+  $ tl remove q open
   tl: open: the element at byte 5 can't be changed so (err)
   [2]
-  $ tl unwrap -i b open
+  $ tl unwrap -i q open
   tl: open: the element at byte 5 can't be changed so (err)
   [2]
-  $ tl append b x open
+  $ tl append q x open
   tl: open: the element at byte 5 can't be changed so (err)
   [2]
-  $ tl prepend b 'x' open
-  <div><b>xx</div>y (no-eol)
-  $ tl before b 'x' open
-  <div>x<b>x</div>y (no-eol)
-  $ tl after b 'x' open
+  $ tl prepend q 'x' open
+  <div><q>xx</div>y (no-eol)
+  $ tl before q 'x' open
+  <div>x<q>x</div>y (no-eol)
+  $ tl after q 'x' open
   tl: open: the element at byte 5 can't be changed so (err)
   [2]
   $ printf '<p>a<br>b</p>' >break
@@ -463,7 +463,7 @@ What is refused.
   tl: standard input has no file to be written (err)
   [2]
   $ cat open
-  <div><b>x</div>y (no-eol)
+  <div><q>x</div>y (no-eol)
 
   $ tl set -i a k v <page
   tl: standard input has no file to be written (err)
@@ -603,6 +603,30 @@ An element that browsers put in has no tag that could be changed; a key that it 
   [2]
   $ printf '<p class=x>a' | tl unset '*' class
   <p>a (no-eol)
+
+An element has to be whole: what begins in the bytes that it has by its end tags stands in it to browsers, and nothing else does. Else its tag alone can be changed.
+
+  $ printf '<svg><p>x</p></svg>y' >across
+  $ tl remove svg across
+  tl: across: the element at line 1, column 1 isn't whole, so its tag alone can be changed: what begins at line 1, column 9 is in it by its tags or to browsers, and not by both (err)
+  [2]
+  $ tl before svg z across
+  tl: across: the element at line 1, column 1 isn't whole, so its tag alone can be changed: what begins at line 1, column 9 is in it by its tags or to browsers, and not by both (err)
+  [2]
+  $ tl set svg k v across
+  <svg k="v"><p>x</p></svg>y (no-eol)
+  $ tl remove p across
+  <svg></svg>y (no-eol)
+  $ printf '<div>\n<b>1<p>2</b>3</p></div>' | tl unwrap b
+  tl: -: the element at line 2, column 1 isn't whole, so its tag alone can be changed: what begins at line 2, column 1 is in it by its tags or to browsers, and not by both (err)
+  [2]
+  $ printf '<div><b>1<p>2</b>3</p></div>' | tl append div x
+  <div><b>1<p>2</b>3</p>x</div> (no-eol)
+  $ printf '<table><tr><i>1</i><td>2</table>' | tl fill tr x
+  tl: -: the element at line 1, column 8 isn't whole, so its tag alone can be changed: what begins at line 1, column 12 is in it by its tags or to browsers, and not by both (err)
+  [2]
+  $ printf '<table><tr><i>1</i><td>2</table>' | tl remove td
+  <table><tr><i>1</i></table> (no-eol)
 
 Where the tokenizer by itself reads a text, no tag can be changed.
 

@@ -532,8 +532,8 @@ What is said of texts that are no selectors: each cause, and each thing to write
   $ tl select ::before none
   tl: no selector: at byte 0: a pseudo-element is no tag: `:` (err)
   [2]
-  $ tl select '|p' none
-  tl: no selector: at byte 0: namespaces are not known here: `|` (a bar in a name is written `\|`) (err)
+  $ tl select '[svg|href]' none
+  tl: no selector: at byte 4: no prefix of a namespace is known here: `|` (a bar in a name is written `\|`) (err)
   [2]
   $ tl select :not none
   tl: no selector: at byte 4: an argument in brackets is missing (err)
@@ -641,7 +641,7 @@ What is said of texts that are no selectors: each cause, and each thing to write
   tl: no selector: at byte 2: `=`, `~=`, `|=`, `^=`, `$=`, `*=` or `]` is missing: `!` (write `:not([key=value])`) (err)
   [2]
   $ tl select 'svg|a' none
-  tl: no selector: at byte 3: namespaces are not known here: `|` (a bar in a name is written `\|`) (err)
+  tl: no selector: at byte 3: no prefix of a namespace is known here: `|` (a bar in a name is written `\|`) (err)
   [2]
   $ tl select p::before none
   tl: no selector: at byte 1: a pseudo-element is no tag: `:` (err)

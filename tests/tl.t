@@ -307,6 +307,10 @@ Tables as CSV.
   $ printf '<table><tr><td>a</td><p><tr><td>b</table>' | tl table
   a
   b
+  $ printf '<table><col><colgroup span=2><tbody><tr><td>a<td>b</table>' | tl table
+  a,b,
+  $ printf '<table><tr><td>a</tbody><colgroup span=2></table>' | tl table
+  a
   $ printf '<table></table>' | tl table
   $ tl table <page
   [1]
@@ -355,6 +359,88 @@ The text inside of nodes.
   articles:
   articles:b c
   articles:e
+
+Texts without what is in some elements.
+
+  $ printf '<nav>n <b>m</b></nav><p>a <i>b</i> c<p id=x>d' >parts
+  $ tl text -w --not nav parts
+  a b c
+  (empty)
+  d
+  $ tl text -w --not 'b, i' parts
+  n
+  (empty)
+  a c
+  (empty)
+  d
+  $ tl text -w --not 'nav ~ p' parts
+  n m
+  $ tl text -w --not table parts
+  n m
+  (empty)
+  a b c
+  (empty)
+  d
+  $ tl text -w --not body parts
+  $ tl text -w --in p --not i parts
+  a c
+  d
+  $ tl text -w --in 'b, #x' --not nav parts
+  d
+  $ tl text -w --in i --not i parts
+  $ tl text -w --in table --not i parts
+  [1]
+  $ tl text -w --in p --not i parts articles
+  parts:a c
+  parts:d
+  articles:a
+  articles:b
+  articles:d
+  $ tl text -w --not nav: none
+  tl: no selector: at byte 4: a name is missing (err)
+  [2]
+  $ tl text --not nav parts
+  error: the following required arguments were not provided: (err)
+    --whitespace (err)
+  ...
+  [2]
+
+Comments.
+
+  $ printf '<!-- a --><!doctype html><p>x<!--b\nc--><b><!----></b><template><!--d--></template></p></html><!--e-->' >said
+  $ tl text --comments said
+   a\x20 (esc)
+  b
+  c
+  (empty)
+  d
+  e
+  $ tl text --comments --in 'p, b' said
+  b
+  c
+  (empty)
+  d
+  (empty)
+  $ tl text --comments --in html --no-name said parts
+  b
+  c
+  (empty)
+  d
+  $ tl text --comments said parts
+  said: a\x20 (esc)
+  said:b
+  said:c
+  said:
+  said:d
+  said:e
+  $ tl text --comments parts
+  [1]
+  $ tl text --comments --in i said
+  [1]
+  $ tl text --comments -w said
+  error: the argument '--comments' cannot be used with '--whitespace' (err)
+  ...
+  [2]
 
 The names of files are taken as they stand.
 

@@ -7,12 +7,12 @@ _tl() {
     fi
     case $before in
         --encoding) COMPREPLY=($(compgen -W 'utf-8 windows-1252 latin1' -- "$word")); return ;;
-        --attribute|--backup|--in|--keys|--link-keys|--links|--max-count|--number|--prefix|--tags|-a|-m|-n) COMPREPLY=(); return ;;
+        --attribute|--backup|--in|--keys|--link-keys|--links|--max-count|--not|--number|--prefix|--tags|-a|-m|-n) COMPREPLY=(); return ;;
     esac
     case ${COMP_WORDS[1]} in
         select) options='-1 --first -m --max-count --encoding -q --quiet -l --files-with-matches -0 --null -a --attribute -t --text -H --inside -n --number -c --count --json --tree --no-name -h --help' ;;
         links) options='--no-name --encoding -q --quiet -l --files-with-matches -0 --null -h --help' ;;
-        text) options='--no-name --encoding -w --whitespace --in -h --help' ;;
+        text) options='--no-name --encoding -w --whitespace --in --comments --not -h --help' ;;
         table) options='--no-name --encoding -n --number -h --help' ;;
         print) options='--no-name --encoding --pretty -h --help' ;;
         outline) options='--no-name --encoding -n --number -h --help' ;;

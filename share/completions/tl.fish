@@ -42,6 +42,8 @@ complete -c tl -n '__fish_seen_subcommand_from text' -l no-name -d 'No `FILE:` b
 complete -c tl -n '__fish_seen_subcommand_from text' -l encoding -x -a 'utf-8 windows-1252 latin1' -d 'What the pages are in: utf-8, latin1 or windows-1252'
 complete -c tl -n '__fish_seen_subcommand_from text' -s w -l whitespace -d 'Blocks on lines, one space between words, no scripts'
 complete -c tl -n '__fish_seen_subcommand_from text' -l in -x -d 'Of what is inside each node where the selector holds'
+complete -c tl -n '__fish_seen_subcommand_from text' -l comments -d 'The comments in the place of the texts, one on a line'
+complete -c tl -n '__fish_seen_subcommand_from text' -l not -x -d 'With -w: but for elements where the selector holds'
 complete -c tl -n '__fish_seen_subcommand_from text' -s h -l help -d 'Print help'
 complete -c tl -n '__fish_seen_subcommand_from table' -l no-name -d 'No `FILE:` before each line, where there are several'
 complete -c tl -n '__fish_seen_subcommand_from table' -l encoding -x -a 'utf-8 windows-1252 latin1' -d 'What the pages are in: utf-8, latin1 or windows-1252'

@@ -1,7 +1,7 @@
 -- What is answered of a page, by its tree.
 use Rattle.std.proofs.Common.{Err, List, Ok, Result, ap, length, subst, true, ℕ, ◌∙◌, ◌≡◌}
 use Rattle.std.specs.Prelude.{IfErr, IfOk, OnOk}
-use Rattle.tl_answers.specs.Answers.{answer_of, table_asked}
+use Rattle.tl_answers.specs.Answers.{Matches, answer_of, table_asked}
 use Rattle.tl_answers.specs.Findings.{finding_of}
 use Rattle.tl_answers.specs.Pages.{AreSources, IsAnswered, IsRefused, page_rows, searched}
 use Rattle.tl_answers.specs.Tables.{Fits, IsLargeAt, IsUnanswered}
@@ -37,19 +37,19 @@ module _ (page : List ℕ) (tree : Tree) (rows : rows_in tree ≡ rows_of (html_
       → Fits (length page) (page_rows page) (table_asked (page_rows page) question)
   fitted question fits = subst (λ (R : List Row). Fits (length page) R (table_asked R question)) rows fits
 
-  pub answered : (question : Question) (ns end : List ℕ) (r : Result Output AnswerError) → is_in_proportion_by standard page ≡ true
+  pub answered : (question : Question) (m : Matches) (end : List ℕ) (r : Result Output AnswerError) → is_in_proportion_by standard page ≡ true
       → AreSourced page (page_begin standard page) tree
-      → IfOk r (λ output. finding_of output ≡ answer_of question ns end (html_tree page).trees (source_at tree))
+      → IfOk r (λ output. finding_of output ≡ answer_of question m end (html_tree page).trees (source_at tree))
       → OnOk r (Fits (length page) (rows_in tree) (table_asked (rows_in tree) question))
-      → IfOk r (λ output. IsAnswered question ns end page (finding_of output))
-  answered question ns end (Ok output) in_proportion sourced said fits = record {
+      → IfOk r (λ output. IsAnswered question m end page (finding_of output))
+  answered question m end (Ok output) in_proportion sourced said fits = record {
     in_proportion = in_proportion;
     sources = source_at tree;
     are_sources = are_sources sourced;
     answer = said;
     fits = fitted question fits;
   }
-  answered question ns end (Err error) in_proportion sourced said fits = tt
+  answered question m end (Err error) in_proportion sourced said fits = tt
 
   refused_by : (question : Question) (error : AnswerError) → is_in_proportion_by standard page ≡ true → AreSourced page (page_begin standard page) tree
       → IsUnanswered (length page) (rows_in tree) (source_at tree) (table_asked (rows_in tree) question) error → IsRefused question page error

@@ -1,7 +1,8 @@
 -- A page with tags or elements changed, by its tree.
 use Rattle.std.proofs.Common.{List, Ok, Err, false, ℕ, ◌≡◌}
 use Rattle.std.specs.Prelude.{IfErr, IfOk, Result}
-use Rattle.tl_answers.specs.Edits.{IsDone, IsDoneOfPage, IsOfPage, IsUndone, IsUndoneOfPage, refusal_of_read}
+use Rattle.tl_answers.specs.Edits.{IsDone, IsDoneOfPage, IsUndone, IsUndoneOfPage, refusal_of_read}
+use Rattle.tl_tree.specs.Pages.{IsOfPage}
 use Rattle.tl_answers.specs.Pages.{IsUnread}
 use Rattle.tl_answers.specs.declared.edit.Edit.{Edit}
 use Rattle.tl_answers.specs.declared.edit.Edit.TheVariants as edit

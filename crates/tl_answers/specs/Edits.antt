@@ -1,5 +1,5 @@
 -- What a change of tags or elements gives, and why it is refused.
-use Rattle.std.specs.Prelude.{◌≡◌, ℕ, List, ⊤, string_bytes}
+use Rattle.std.specs.Prelude.{ℕ, List, ⊤, string_bytes}
 use Rattle.tl_css.specs.Selector.{Css}
 use Rattle.tl_patch_edit.specs.View.{patch_view}
 use Rattle.tl_patch_spec.specs.Patches.{Patch, RenameElement}
@@ -14,10 +14,7 @@ use Rattle.tl_answers.specs.declared.edit.Edit.{Edit}
 use Rattle.tl_answers.specs.declared.edit.Edit.TheVariants as edit
 use Rattle.tl_answers.specs.declared.edit.Refusal.{Refusal}
 use Rattle.tl_answers.specs.declared.edit.Refusal.TheVariants as refusal
-use Rattle.tl_dom_spec.specs.HtmlTree.{html_tree, standard}
-use Rattle.tl_tree.specs.Rows.{rows_of}
-use Rattle.tl_tree.specs.Sources.{AreSourced, page_begin}
-use Rattle.tl_tree.specs.TreeView.{rows_in}
+use Rattle.tl_tree.specs.Pages.{IsOfPage}
 use Rattle.tl_tree.specs.declared.error.ReadError.{ReadError}
 use Rattle.tl_tree.specs.declared.error.ReadError.TheVariants.{OutOfMemory}
 use Rattle.tl_tree.specs.declared.tree.Tree.{Tree}
@@ -58,12 +55,6 @@ IsUndone (edit.Rename name) e tree page why =
 IsUndone (edit.Element patch) e tree page why = IsElementRefusal e (patch_view patch) tree page why
 
 -- Of a page
-
--- a tree is that of a page, read without scripts, and its nodes come from there in it
-pub record IsOfPage (page : List ℕ) (tree : Tree) : Type 0 where
-  pub rows : rows_in tree ≡ rows_of (html_tree page).trees
-  pub quirks : tree.is_quirks ≡ (html_tree page).is_quirks
-  pub sources : AreSourced page (page_begin standard page) tree
 
 -- text is the page with this done where the selector holds in its tree
 pub record IsDoneOfPage (own : Edit) (e : Css) (page text places : List ℕ) : Type 0 where

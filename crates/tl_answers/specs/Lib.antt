@@ -1,5 +1,6 @@
 pub mod Findings
 pub mod Document
+pub mod LeftOut
 pub mod Lines
 pub mod Objects
 pub mod Tables

@@ -5,11 +5,12 @@ use Rattle.std.specs.Prelude.{Bool, List, None, Option, Some, [], false, flat_ma
 use Rattle.tl_dom_spec.specs.HtmlForest.{HtmlForest}
 use Rattle.tl_html_print.specs.Places.{inner_at, outer_at}
 use Rattle.tl_tree.specs.Asked.{attributes_at, namespace_of, node_at, value_of}
-use Rattle.tl_tree.specs.Below.{text_content}
+use Rattle.tl_tree.specs.Below.{said_at, text_content}
 use Rattle.tl_tree.specs.Rows.{Row, rows_of}
 use Rattle.tl_tree.specs.declared.entries.Namespace.{Namespace}
 use Rattle.tl_tree.specs.declared.entries.Namespace.TheVariants.{Html, Math, Svg}
-use Rattle.tl_tree_extract.specs.Readable.{readable_below}
+use Rattle.tl_tree_extract.specs.Marks.{comments_below}
+use Rattle.tl_answers.specs.LeftOut.{readable_inside}
 use Rattle.tl_answers.specs.declared.field.Field.{Field}
 use Rattle.tl_answers.specs.declared.field.Field.TheVariants.{InnerHtml, Number, OuterHtml, Text, Value}
 use Rattle.tl_answers.specs.declared.field.Key.{Key}
@@ -52,6 +53,19 @@ field_line (Value key) end trees n = ended end (value_at key (rows_of trees) n)
 abbrev pub field_lines : Field → List ℕ → HtmlForest → List ℕ → List ℕ
 field_lines field end trees numbers = flat_map (field_line field end trees) numbers
 
--- the readable text inside each, whose lines end with a line feed
-abbrev pub readable_lines : List Row → List ℕ → List ℕ
-readable_lines rows numbers = flat_map (λ n. line_ended (readable_below [] rows n)) numbers
+-- the readable text inside each, whose lines end with a line feed, without what has a mark
+abbrev pub readable_lines : List Bool → List Row → List ℕ → List ℕ
+readable_lines marks rows numbers =
+    flat_map (λ n. line_ended (readable_inside marks rows n)) numbers
+
+-- what a comment says, and what ends it
+abbrev pub comment_line : List ℕ → List Row → ℕ → List ℕ
+comment_line end rows n = said_at rows n ++ end
+
+abbrev pub comment_lines : List ℕ → List Row → List ℕ → List ℕ
+comment_lines end rows comments = flat_map (comment_line end rows) comments
+
+-- the comments below each
+abbrev pub comments_inside : List ℕ → List Row → List ℕ → List ℕ
+comments_inside end rows numbers =
+    flat_map (λ n. comment_lines end rows (comments_below rows n)) numbers

@@ -1,6 +1,6 @@
 -- What is answered of a page: of the tree that the HTML standard builds of its bytes.
 use Rattle.std.specs.Prelude.{List, None, Option, Some, false, length, true, ℕ, ⊤, ◌≡◌, ◌≤◌}
-use Rattle.tl_answers.specs.Answers.{answer_of, table_asked}
+use Rattle.tl_answers.specs.Answers.{Matches, answer_of, table_asked}
 use Rattle.tl_answers.specs.Findings.{Finding}
 use Rattle.tl_answers.specs.Tables.{Fits, IsLargeAt}
 use Rattle.tl_answers.specs.declared.error.AnswerError.{AnswerError}
@@ -38,12 +38,12 @@ abbrev pub page_rows : List ℕ → List Row
 page_rows page = rows_of (html_tree page).trees
 
 -- what is answered of a page where these are selected
-pub record IsAnswered (question : Question) (ns end page : List ℕ) (finding : Finding) :
-    Type 0 where
+pub record IsAnswered (question : Question) (m : Matches) (end page : List ℕ)
+    (finding : Finding) : Type 0 where
   pub in_proportion : is_in_proportion_by standard page ≡ true
   pub sources : ℕ → Option Source
   pub are_sources : AreSources page sources
-  pub answer : finding ≡ answer_of question ns end (html_tree page).trees sources
+  pub answer : finding ≡ answer_of question m end (html_tree page).trees sources
   pub fits : Fits (length page) (page_rows page) (table_asked (page_rows page) question)
 
 -- why it isn't read

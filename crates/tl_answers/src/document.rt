@@ -46,14 +46,18 @@ pub(crate) fn document_text(alloc: Global, tree: &Tree<'_>) -> Result<Output, Al
     Ok(Output::whole(text))
 }
 
-/// The readable text of a page, and a line feed if there is any.
+/// The readable text of a page but for nodes with a mark, and a line feed if there is any.
 #[tactic(auto, using(crate::proofs::Ends::ended_none, crate::proofs::Ends::ended_some))]
-pub(crate) fn readable_document(alloc: Global, tree: &Tree<'_>) -> Result<Output, AllocError>
+pub(crate) fn readable_document(
+    alloc: Global,
+    tree: &Tree<'_>,
+    left_out: &[bool],
+) -> Result<Output, AllocError>
     ensures { IfOk result (λ text.
-        finding_of text ≡ whole (line_ended (readable_rows [] (rows_in tree.now)))) }
+        finding_of text ≡ whole (line_ended (readable_rows left_out.now (rows_in tree.now)))) }
 {
     let mut text = Vec::new(alloc);
-    write_readable_document(tree, &[], &mut text)?;
+    write_readable_document(tree, left_out, &mut text)?;
     if text.is_empty() {
         return Ok(Output::whole(text));
     }

@@ -1,13 +1,15 @@
 //! What is written of a node.
 ghost use Rattle.std.specs.Fmt.{decimal};
 ghost use Rattle.std.specs.Option.{option_copied};
-ghost use Rattle.std.specs.Prelude.{OnOk, [], ◌++◌, ◌≡◌};
+ghost use Rattle.std.specs.Prelude.{OnOk, ◌++◌, ◌≡◌};
+ghost use Rattle.tl_answers.specs.LeftOut.{readable_inside};
 ghost use Rattle.tl_answers.specs.Lines.{ended, field_line, is_html_at, line_ended, value_at};
 ghost use Rattle.tl_dom_spec.specs.HtmlForest.{HtmlForest};
 ghost use Rattle.tl_tree.specs.Rows.{rows_of};
 ghost use Rattle.tl_tree.specs.TreeView.{rows_in};
 ghost use Rattle.tl_tree_extract.specs.Readable.{readable_below};
 
+use crate::left_out::is_within;
 use std::alloc::{AllocError, Global};
 use tl_html_print::{write_inner, write_outer};
 use tl_tree::{Namespace, Tree};
@@ -105,21 +107,40 @@ pub(crate) fn put_line(
     }
 }
 
-/// Writes the readable text of what is below a node, and a line feed if there is any.
+// Writes the readable text of what is below a node, but for nodes with a mark, and a line feed if
+// there is any.
 #[tactic(auto, using(crate::proofs::Ends::ended_none, crate::proofs::Ends::ended_some))]
-pub(crate) fn put_readable(
+fn put_readable(
     tree: &Tree<'_>,
+    left_out: &[bool],
     number: usize,
     out: &mut Vec<u8>,
 ) -> Result<(), AllocError>
     ensures { OnOk result (out.new.items
-        ≡ out.old.items ++ line_ended (readable_below [] (rows_in tree.now) number)) }
+        ≡ out.old.items ++ line_ended (readable_below left_out.now (rows_in tree.now) number)) }
 {
     let start = out.len();
-    write_readable_text(tree, number, &[], out)?;
+    write_readable_text(tree, number, left_out, out)?;
     if out.len() == start {
         return Ok(());
     }
     out.push(b'\n')?;
     Ok(())
+}
+
+/// Writes the readable text inside a node, without nodes that have a mark and what is in them, and
+/// a line feed if there is any.
+pub(crate) fn put_inside(
+    tree: &Tree<'_>,
+    left_out: &[bool],
+    number: usize,
+    out: &mut Vec<u8>,
+) -> Result<(), AllocError>
+    ensures { OnOk result (out.new.items ≡ out.old.items
+        ++ line_ended (readable_inside left_out.now (rows_in tree.now) number)) }
+{
+    if is_within(tree, left_out, number) {
+        return Ok(());
+    }
+    put_readable(tree, left_out, number, out)
 }

@@ -6,6 +6,7 @@ mod edit;
 mod edited;
 mod error;
 mod field;
+mod left_out;
 mod lines;
 mod objects;
 mod output;

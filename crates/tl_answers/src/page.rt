@@ -1,6 +1,6 @@
 //! What is answered of a page.
-ghost use Rattle.std.specs.Prelude.{IfErr, IfOk, List, ℕ};
-ghost use Rattle.tl_answers.specs.Answers.{AreSelected};
+ghost use Rattle.std.specs.Prelude.{IfErr, IfOk};
+ghost use Rattle.tl_answers.specs.Answers.{AreSelected, Matches};
 ghost use Rattle.tl_answers.specs.Findings.{finding_of};
 ghost use Rattle.tl_answers.specs.Pages.{IsAnswered, IsRefused, searched};
 
@@ -24,9 +24,9 @@ pub fn answer_of_page(
     end: &str,
     page: &[u8],
 ) -> Result<Output, AnswerError>
-    // By the numbers of the nodes where its selector holds, if it has one: these are one list.
-    ensures made { (ns : List ℕ) → AreSelected question.now (searched page.now) ns → IfOk result
-        (λ output. IsAnswered question.now ns end.now page.now (finding_of output)) }
+    // By the numbers of the nodes where its selectors hold, if it has any: these are one list each.
+    ensures made { (m : Matches) → AreSelected question.now (searched page.now) m → IfOk result
+        (λ output. IsAnswered question.now m end.now page.now (finding_of output)) }
     ensures told { IfErr result (IsRefused question.now page.now) }
 {
     let tree = Tree::read(alloc, page, FLAGS)?;

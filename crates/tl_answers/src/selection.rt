@@ -1,16 +1,17 @@
 //! What is written of the nodes where a selector holds.
 ghost use Rattle.std.specs.Prelude.{IfOk, List, ℕ, ◌≡◌};
-ghost use Rattle.tl_answers.specs.Answers.{front, listing_of};
+ghost use Rattle.tl_answers.specs.Answers.{AreAsked, Matches, but_of, front, listing_of};
 ghost use Rattle.tl_answers.specs.Findings.{finding_of};
+ghost use Rattle.tl_answers.specs.LeftOut.{AreLeftOut};
 ghost use Rattle.tl_dom_spec.specs.HtmlForest.{HtmlForest};
 ghost use Rattle.tl_tree.specs.Rows.{rows_of};
 ghost use Rattle.tl_tree.specs.Sources.{source_at};
 ghost use Rattle.tl_tree.specs.TreeView.{rows_in};
-ghost use Rattle.tl_tree_select.specs.Meaning.{AreFound};
 ghost use Rattle.tl_tree_select.specs.Page.{page_of};
 
 use crate::field::Field;
-use crate::lines::{count_line, field_lines, readable_lines};
+use crate::left_out::left_out;
+use crate::lines::{comments_inside, count_line, field_lines, readable_lines};
 use crate::objects::{object_array, object_lines};
 use crate::output::Output;
 use std::alloc::{AllocError, Global};
@@ -24,8 +25,11 @@ use tl_tree_select::select;
 pub enum Listing<'w> {
     /// A field of each.
     Fields(Field<'w>),
-    /// The readable text inside each, which may be empty.
-    Readable,
+    /// The readable text inside each, which may be empty, but for what is in nodes where a selector
+    /// holds, if one is said.
+    Readable(Option<&'w Selector>),
+    /// The comments below each.
+    Comments,
     /// How many there are.
     Count,
     /// An array of JSON, with an object for each.
@@ -62,12 +66,18 @@ fn list(
     listing: &Listing<'_>,
     end: &str,
 ) -> Result<Output, AllocError>
-    ensures { (trees : HtmlForest) → rows_in tree.now ≡ rows_of trees → IfOk result (λ output.
-        finding_of output ≡ listing_of listing.now end.now trees (source_at tree.now) numbers.now) }
+    ensures { (trees : HtmlForest) (out : List ℕ) → rows_in tree.now ≡ rows_of trees →
+        AreLeftOut (but_of listing.now) (page_of tree.now) out → IfOk result
+        (λ output. finding_of output
+        ≡ listing_of listing.now end.now trees (source_at tree.now) numbers.now out) }
 {
     match listing {
         Listing::Fields(field) => field_lines(alloc, tree, numbers, *field, end),
-        Listing::Readable => readable_lines(alloc, tree, numbers),
+        Listing::Readable(but) => {
+            let marks = left_out(alloc, tree, *but)?;
+            readable_lines(alloc, tree, &marks, numbers)
+        }
+        Listing::Comments => comments_inside(alloc, tree, numbers, end),
         Listing::Count => count_line(alloc, numbers.len(), end),
         Listing::Objects(form) => object_array(alloc, tree, numbers, *form, end),
         Listing::Lines(form, file) => object_lines(alloc, tree, numbers, *form, file),
@@ -81,10 +91,10 @@ pub(crate) fn selection(
     query: &Query<'_>,
     end: &str,
 ) -> Result<Output, AllocError>
-    ensures { (trees : HtmlForest) (ns : List ℕ) → rows_in tree.now ≡ rows_of trees →
-        let query = query.now in AreFound (page_of tree.now) query.selector.now ns
-        → IfOk result (λ output. finding_of output
-        ≡ listing_of query.listing end.now trees (source_at tree.now) (front query.most ns)) }
+    ensures { (trees : HtmlForest) (m : Matches) → rows_in tree.now ≡ rows_of trees →
+        let query = query.now in AreAsked query (page_of tree.now) m
+        → IfOk result (λ output. finding_of output ≡ listing_of query.listing end.now trees
+        (source_at tree.now) (front query.most m.found) m.left_out) }
 {
     let numbers = select(alloc, tree, query.selector)?;
     let meant = front(&numbers, query.most);

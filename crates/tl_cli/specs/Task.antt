@@ -1,6 +1,6 @@
 -- What is made of a page.
-use Rattle.std.specs.Prelude.{List, [], true, ℕ, ⊤, ◌≡◌}
-use Rattle.tl_answers.specs.Answers.{AreSelected}
+use Rattle.std.specs.Prelude.{List, true, ℕ, ⊤, ◌≡◌}
+use Rattle.tl_answers.specs.Answers.{AreNone, AreSelected, Matches}
 use Rattle.tl_answers.specs.Findings.{Finding, whole}
 use Rattle.tl_answers.specs.Pages.{HasLargeTableAt, IsAnswered, IsUnread, searched}
 use Rattle.tl_answers.specs.declared.error.AnswerError.{AnswerError}
@@ -29,15 +29,15 @@ pub record IsMadeSafe (lists : ListedWords) (page : List ℕ) (finding : Finding
 
 -- Tasks
 
--- the numbers of the nodes where the selector of a task holds; where it has none, no number
-abbrev pub AreSelectedIn : Task → List ℕ → List ℕ → Type 0
-AreSelectedIn (Ask question) page ns = AreSelected question (searched page) ns
-AreSelectedIn (Sanitize policy) page ns = ns ≡ []
+-- the numbers of the nodes where the selectors of a task hold; where it has none, no number
+abbrev pub AreSelectedIn : Task → List ℕ → Matches → Type 0
+AreSelectedIn (Ask question) page m = AreSelected question (searched page) m
+AreSelectedIn (Sanitize policy) page m = AreNone m
 
 -- what a task makes of a page
-abbrev pub IsMade : Task → List ℕ → List ℕ → List ℕ → Finding → Type 0
-IsMade (Ask question) ns end page finding = IsAnswered question ns end page finding
-IsMade (Sanitize policy) ns end page finding = IsMadeSafe (lists_of policy) page finding
+abbrev pub IsMade : Task → Matches → List ℕ → List ℕ → Finding → Type 0
+IsMade (Ask question) m end page finding = IsAnswered question m end page finding
+IsMade (Sanitize policy) m end page finding = IsMadeSafe (lists_of policy) page finding
 
 -- a page that is no text, or too long, is not understood; else memory ran out
 abbrev pub IsNoPage : List ℕ → Failure → Type 0

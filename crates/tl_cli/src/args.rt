@@ -10,6 +10,7 @@ use crate::patching::Patching;
 use crate::selected::{Selected, Wanted};
 use crate::task::Task;
 use crate::terminal::Terminal;
+use crate::texts::{TextForm, Texts};
 use clap::error::ErrorKind;
 use clap::{ArgMatches, Error};
 use std::alloc::{AllocError, Global};
@@ -66,6 +67,8 @@ pub enum Action<'w> {
     Task(Task<'w>),
     /// What is selected.
     Select(Selected<'w>),
+    /// What texts say.
+    Text(Texts),
     /// What is changed where a selector holds.
     Patch(Patching<'w>),
     /// Safe pages, by the lists of these texts.
@@ -201,36 +204,36 @@ fn selected<'w>(alloc: Global, matches: &ArgMatches<'w>) -> Result<Selected<'w>,
     })
 }
 
-// The texts inside what is selected.
-fn text_inside<'w>(
+// The selector that an option says, if it is there.
+fn selector_at<'w>(
     alloc: Global,
-    text: &'w str,
     matches: &ArgMatches<'w>,
-) -> Result<Selected<'w>, UsageError<'w>> {
-    let wanted = if matches.get_flag("whitespace") {
-        Wanted::Readable
-    } else {
-        Wanted::Text
-    };
-    Ok(Selected {
-        selector: selector(alloc, text)?,
-        key: "",
-        wanted,
-        most: None,
-    })
+    option: &str,
+) -> Result<Option<Selector>, UsageError<'w>> {
+    match matches.get_str(option) {
+        Some(text) => Ok(Some(selector(alloc, text)?)),
+        None => Ok(None),
+    }
 }
 
-// What a command of texts makes of pages.
-fn text<'w>(alloc: Global, matches: &ArgMatches<'w>) -> Result<Action<'w>, UsageError<'w>> {
-    if let Some(text) = matches.get_str("in") {
-        return Ok(Action::Select(text_inside(alloc, text, matches)?));
-    }
-    let question = if matches.get_flag("whitespace") {
-        Question::Readable
+// How texts are written.
+fn text_form(matches: &ArgMatches<'_>) -> TextForm {
+    if matches.get_flag("comments") {
+        TextForm::Comments
+    } else if matches.get_flag("whitespace") {
+        TextForm::Readable
     } else {
-        Question::Text
-    };
-    Ok(Action::Task(Task::Ask(question)))
+        TextForm::Plain
+    }
+}
+
+// Which texts are meant, and how they are written.
+fn texts<'w>(alloc: Global, matches: &ArgMatches<'w>) -> Result<Texts, UsageError<'w>> {
+    Ok(Texts {
+        form: text_form(matches),
+        inside: selector_at(alloc, matches, "in")?,
+        left_out: selector_at(alloc, matches, "not")?,
+    })
 }
 
 // Which table is meant, from 0.
@@ -290,7 +293,7 @@ fn action_of<'w>(
     let question = match verb {
         Verb::Select => return Ok(Action::Select(selected(alloc, matches)?)),
         Verb::Links => Question::Links,
-        Verb::Text => return text(alloc, matches),
+        Verb::Text => return Ok(Action::Text(texts(alloc, matches)?)),
         Verb::Table => Question::Table(table_number(matches)?),
         Verb::Print if matches.get_flag("pretty") => Question::PrettyPrint,
         Verb::Print => Question::Print,

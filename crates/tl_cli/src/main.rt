@@ -7,6 +7,7 @@ ghost use Rattle.tl_cli.specs.declared.args.UsageError.TheVariants.{OutOfMemory}
 ghost use Rattle.tl_cli.specs.UsageErrors.{IsWrongWord};
 
 mod args;
+mod crossed;
 mod edit_words;
 mod filename;
 mod in_place;
@@ -14,10 +15,12 @@ mod job;
 mod misread;
 mod pages;
 mod patching;
+mod position;
 mod reports;
 mod selected;
 mod task;
 mod terminal;
+mod texts;
 
 use args::{Action, Pages, UsageError, read};
 use clap::Error;
@@ -78,6 +81,7 @@ fn run(rt: &HostRuntime) -> Result<u8, Failure> {
         Ok(args) => match &args.action {
             Action::Task(task) => process(rt, task, &args.pages),
             Action::Select(selected) => select(rt, selected, &args.pages),
+            Action::Text(texts) => process(rt, &Task::Ask(texts.question()), &args.pages),
             Action::Patch(patching) => patch_pages(rt, patching, &args.pages),
             Action::Safe(texts) => sanitize(rt, texts, &args.pages),
             Action::Policy(texts) => write_policy(rt, texts),

@@ -3,12 +3,14 @@ ghost use Rattle.std.specs.Prelude.{◌≡◌, IfErr};
 ghost use Rattle.tl_page.specs.declared.failure.Failure.TheVariants.{OutOfMemory};
 
 use crate::args::Pages;
+use crate::crossed::Crossed;
 use crate::in_place::replace;
 use crate::misread::Misread;
 use crate::pages::{
     STANDARD_INPUT, not_understood, page_of, report, report_error, report_failure, unmade,
     unwritten, write,
 };
+use crate::position::Position;
 use crate::reports::{Answer, Report, status_of};
 use crate::task::Unmade;
 use std::alloc::{AllocError, Global};
@@ -39,33 +41,6 @@ pub struct Patching<'w> {
     pub selector: Selector,
     pub edit: Edit<'w>,
     pub target: Target<'w>,
-}
-
-// The line of a byte, and where that begins.
-#[derive(Clone, Copy)]
-struct Position {
-    line: usize,
-    start: usize,
-}
-
-impl Position {
-    // That of the first byte.
-    fn new() -> Self {
-        Position { line: 1, start: 0 }
-    }
-
-    // That behind a byte.
-    fn pass(&mut self, at: usize, byte: u8) {
-        if byte == b'\n' {
-            self.line = self.line.saturating_add(1);
-            self.start = at.saturating_add(1);
-        }
-    }
-
-    // The column of a byte on its line, from 1.
-    fn column(&self, at: usize) -> usize {
-        at.saturating_sub(self.start).saturating_add(1)
-    }
 }
 
 // The lines that say where tags begin: the file, the line and the column, both from 1, in bytes.
@@ -179,6 +154,11 @@ fn patch_page(rt: &HostRuntime, patching: &Patching<'_>, file: &str) -> Result<A
             let page = page.as_bytes();
             let misread = Misread { page, place, cause };
             Ok(not_understood(rt, file, &misread))
+        }
+        Err(Refusal::Element(SelectionEditError::NotWhole(place, at))) => {
+            let page = page.as_bytes();
+            let crossed = Crossed { page, place, at };
+            Ok(not_understood(rt, file, &crossed))
         }
         Err(Refusal::Element(error)) => Ok(not_understood(rt, file, &error)),
         Err(Refusal::Unread(error)) => unmade(rt, file, page.as_bytes(), Unmade::from(error)),

@@ -21,8 +21,6 @@ pub enum Wanted {
     InnerHtml,
     /// What the texts below each say.
     Text,
-    /// The readable text inside each.
-    Readable,
     /// The value of each at a key.
     Value,
 }
@@ -80,7 +78,6 @@ impl Selected<'_> {
             (Some(form), None) => Listing::Objects(form),
             (Some(form), Some(file)) => Listing::Lines(form, file),
             (None, _) if self.wanted == Wanted::Count => Listing::Count,
-            (None, _) if self.wanted == Wanted::Readable => Listing::Readable,
             (None, _) => Listing::Fields(self.field(lower)),
         }
     }

@@ -1,6 +1,6 @@
 //! What is made of a page.
-ghost use Rattle.std.specs.Prelude.{◌≡◌, ◌<◌, Err, IfErr, IfOk, IsUtf8, List, length, ℕ};
-ghost use Rattle.tl_answers.specs.Answers.{AreSelected};
+ghost use Rattle.std.specs.Prelude.{◌≡◌, ◌<◌, Err, IfErr, IfOk, IsUtf8, length};
+ghost use Rattle.tl_answers.specs.Answers.{AreSelected, Matches};
 ghost use Rattle.tl_answers.specs.Findings.{finding_of};
 ghost use Rattle.tl_answers.specs.Pages.{IsAnswered, searched};
 ghost use Rattle.tl_cli.specs.Task.{AreSelectedIn, IsMade, IsMadeSafe, IsUnanswered, IsUnmade, IsUnsafe, unanswered_of, unmade_of};
@@ -78,8 +78,8 @@ impl From<AnswerError> for Unmade {
 
 // What is answered of a page.
 fn ask(alloc: Global, question: &Question<'_>, end: &str, page: &[u8]) -> Result<Output, Unmade>
-    ensures made { (ns : List ℕ) → AreSelected question.now (searched page.now) ns → IfOk result
-        (λ output. IsAnswered question.now ns end.now page.now (finding_of output)) }
+    ensures made { (m : Matches) → AreSelected question.now (searched page.now) m → IfOk result
+        (λ output. IsAnswered question.now m end.now page.now (finding_of output)) }
     ensures told { IfErr result (IsUnanswered question.now page.now) }
     ensures no_text { ¬ (IsUtf8 page.now) → result ≡ Err (Failed NotUnderstood) }
     ensures long { u32.MAX < length page.now → result ≡ Err (Failed NotUnderstood) }
@@ -104,9 +104,9 @@ fn safe_page(alloc: Global, policy: &Policy<'_>, page: &[u8]) -> Result<Output, 
 /// What a task makes of a page, where what is listed ends with `end`: nothing of one whose tree, or
 /// the table that is asked for, is out of proportion to it.
 pub fn execute(alloc: Global, task: &Task<'_>, end: &str, page: &[u8]) -> Result<Output, Unmade>
-    // By the numbers of the nodes where its selector holds, if it has one: these are one list.
-    ensures made { (ns : List ℕ) → AreSelectedIn task.now page.now ns → IfOk result
-        (λ output. IsMade task.now ns end.now page.now (finding_of output)) }
+    // By the numbers of the nodes where its selectors hold, if it has any: these are one list each.
+    ensures made { (m : Matches) → AreSelectedIn task.now page.now m → IfOk result
+        (λ output. IsMade task.now m end.now page.now (finding_of output)) }
     ensures told { IfErr result (IsUnmade task.now page.now) }
 
     // No want of memory hides that a page is no text, or too long.

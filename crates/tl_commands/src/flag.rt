@@ -84,6 +84,22 @@ const INSIDE: Flag = Flag {
     excludes: &[],
 };
 
+pub static LEFT_OUT: Flag = Flag {
+    name: "not",
+    short: None,
+    value: Some("SELECTOR"),
+    help: "With -w: but for elements where the selector holds",
+    excludes: &[],
+};
+
+const COMMENTS: Flag = Flag {
+    name: "comments",
+    short: None,
+    value: None,
+    help: "The comments in the place of the texts, one on a line",
+    excludes: &["whitespace", "not"],
+};
+
 pub static TABLE_NUMBER: Flag = Flag {
     name: "number",
     short: Some('n'),
@@ -283,7 +299,7 @@ pub static SEARCH: [Flag; 3] = [QUIET, NAMES, NULL];
 pub static SELECTION: [Flag; 2] = [FIRST, MAX_COUNT];
 
 // How texts are written, and which.
-pub static TEXT_FLAGS: [Flag; 2] = [WHITESPACE, INSIDE];
+pub static TEXT_FLAGS: [Flag; 3] = [WHITESPACE, INSIDE, COMMENTS];
 
 // What a policy lets stand beside its lists, and what pages are in.
 pub static POLICIES: [Flag; 4] = [RELATIVE_LINKS, NOFOLLOW_LINKS, POLICY, ENCODING];

@@ -1,8 +1,8 @@
 //! The commands.
 use crate::element::ElementVerb;
 use crate::flag::{
-    BASES, ENCODING, Flag, LISTS, NO_NAME, NODE_FLAGS, NODE_NUMBERS, POLICIES, PRETTY, SEARCH,
-    SELECTION, TABLE_NUMBER, TARGETS, TEXT_FLAGS, TREE,
+    BASES, ENCODING, Flag, LEFT_OUT, LISTS, NO_NAME, NODE_FLAGS, NODE_NUMBERS, POLICIES, PRETTY,
+    SEARCH, SELECTION, TABLE_NUMBER, TARGETS, TEXT_FLAGS, TREE,
 };
 use crate::help::{
     ABOUT, LINKS, OUTLINES, PRINTS, PROGRAM, SAFE, SELECTORS, SETTINGS, TABLES, TEXTS, UNSETTINGS,
@@ -197,7 +197,8 @@ fn select<'w>(alloc: Global, command: Command<'w>) -> Result<Command<'w>, AllocE
 }
 
 fn text<'w>(alloc: Global, command: Command<'w>) -> Result<Command<'w>, AllocError> {
-    with_flags(alloc, command, &TEXT_FLAGS)
+    let command = with_flags(alloc, command, &TEXT_FLAGS)?;
+    command.arg(LEFT_OUT.argument(alloc)?.requires_arg("whitespace")?)
 }
 
 fn outline<'w>(alloc: Global, command: Command<'w>) -> Result<Command<'w>, AllocError> {

@@ -1,9 +1,7 @@
 //! Documents, and what is asked of them. One function owns each document: whatever is live there
 //! counts at each step of its proof.
 use crate::edited::{Edit, are_done};
-use crate::fields::{has_count, is_refused, is_selected};
 use crate::walks::{ends_by, is_walk, is_walk_below};
-use crate::written::{has_cells, has_outline};
 use std::alloc::Global;
 use tl::errors::TreeError;
 use tl::{ParserOptions, VDom};
@@ -14,17 +12,10 @@ use tl_page::{Failure, read};
 pub enum Question {
     /// Nothing but whether the page is read.
     Read,
-    /// The number of a row of `fields`. (What holds a reference to a type of another module is not
-    /// covered here.)
-    Selected(usize),
-    Counted(&'static str, usize),
-    Refused(&'static str),
     /// The names of tags that are passed over, and the letters of a walk.
     Walk(&'static [u8], &'static str),
     WalkBelow(&'static str),
     Fault(Option<TreeError>),
-    Table(usize, &'static str),
-    Outline(&'static str),
 }
 
 fn is_answer(
@@ -34,14 +25,9 @@ fn is_answer(
 ) -> Result<bool, Failure> {
     match question {
         Question::Read => Ok(true),
-        Question::Selected(number) => is_selected(alloc, document, *number),
-        Question::Counted(selector, wanted) => has_count(alloc, document, selector, *wanted),
-        Question::Refused(selector) => Ok(is_refused(alloc, document, selector)),
         Question::Walk(skips, letters) => is_walk(alloc, document, skips, letters),
         Question::WalkBelow(letters) => is_walk_below(alloc, document, letters),
         Question::Fault(error) => Ok(ends_by(alloc, document, *error)),
-        Question::Table(number, cells) => has_cells(alloc, document, *number, cells),
-        Question::Outline(lines) => has_outline(alloc, document, lines),
     }
 }
 

@@ -20,7 +20,7 @@ static OF_PATCH: [(SelectionPatchError, &str); 4] = [
     (SelectionPatchError::OutOfMemory, "out of memory"),
 ];
 
-static OF_EDIT: [(SelectionEditError, &str); 3] = [
+static OF_EDIT: [(SelectionEditError, &str); 4] = [
     (
         SelectionEditError::Refused(EditError::NotMeant(7)),
         "the element at byte 7 can't be changed so",
@@ -28,6 +28,10 @@ static OF_EDIT: [(SelectionEditError, &str); 3] = [
     (
         SelectionEditError::Untagged(7),
         "the element that is put in at byte 7 has no tag",
+    ),
+    (
+        SelectionEditError::NotWhole(7, 9),
+        "the element at byte 7 isn't whole: what begins at byte 9 is in it by its tags or to browsers, and not by both",
     ),
     (SelectionEditError::OutOfMemory, "out of memory"),
 ];

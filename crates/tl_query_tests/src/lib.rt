@@ -1,5 +1,5 @@
 //! Worked rows of selectors, those of `tl` and those of CSS: their texts, where they hold, and what
-//! queries give; of what is asked of documents; and of policies.
+//! queries give; and of policies.
 #![tactic(auto)]
 
 #[cfg(test)]
@@ -10,8 +10,6 @@ mod documents;
 mod edited;
 #[cfg(test)]
 mod errors;
-#[cfg(test)]
-mod fields;
 #[cfg(test)]
 mod pages;
 #[cfg(test)]
@@ -28,5 +26,3 @@ mod selector_texts;
 mod selectors;
 #[cfg(test)]
 mod walks;
-#[cfg(test)]
-mod written;

@@ -3,7 +3,7 @@ use std::alloc::{AllocError, Global};
 use tl_css::{Cause, SelectorError, parse};
 
 #[rattlefmt::skip]
-static REFUSED: [(&str, usize, Cause); 95] = [
+static REFUSED: [(&str, usize, Cause); 102] = [
     ("", 0, Cause::NoSelector),
     (" ", 1, Cause::NoSelector),
     ("a,", 2, Cause::NoSelector),
@@ -33,6 +33,15 @@ static REFUSED: [(&str, usize, Cause); 95] = [
     ("[=v]", 1, Cause::NoName),
     ("[*=v]", 1, Cause::NoName),
     (".\\\n", 1, Cause::NoName),
+    ("|", 1, Cause::NoName),
+    ("*|", 2, Cause::NoName),
+    ("| p", 1, Cause::NoName),
+    ("*| p", 2, Cause::NoName),
+    ("a || b", 3, Cause::NoName),
+    ("[|]", 2, Cause::NoName),
+    ("[*|=v]", 3, Cause::NoName),
+    ("[| k]", 2, Cause::NoName),
+    ("[* |k]", 1, Cause::NoName),
     ("\\", 0, Cause::Unexpected),
     ("p\\", 1, Cause::Unexpected),
     ("p\\\n", 1, Cause::Unexpected),
@@ -87,13 +96,11 @@ static REFUSED: [(&str, usize, Cause); 95] = [
     (":-webkit-any(p)", 1, Cause::NoPseudoClass),
     ("p::before", 1, Cause::PseudoElement),
     ("::slotted(p)", 0, Cause::PseudoElement),
-    ("|p", 0, Cause::Namespace),
-    ("*|p", 1, Cause::Namespace),
     ("svg|a", 3, Cause::Namespace),
-    ("[|k]", 1, Cause::Namespace),
-    ("[*|k]", 1, Cause::Namespace),
+    ("*|*|p", 3, Cause::Namespace),
+    ("#x|p", 2, Cause::Namespace),
     ("[a|b]", 2, Cause::Namespace),
-    ("a || b", 2, Cause::Namespace),
+    ("[*|a|b]", 4, Cause::Namespace),
     (":not", 4, Cause::NeedsArgument),
     (":nth-child", 10, Cause::NeedsArgument),
     (":not (p)", 4, Cause::NeedsArgument),

@@ -1,13 +1,13 @@
 //! Texts that are selectors, with the steps that they are read as.
 use std::alloc::{AllocError, Global};
 use tl_css::parse;
-use tl_css::selector::{Anchor, Formula, Link, Op, Reach, Step, Test, Way};
+use tl_css::selector::{Anchor, Case, Formula, Link, Op, Reach, Space, Step, Test, Way};
 
 // A selector, and its steps. A test stands for itself; `&` puts one to what is there, `!` turns it,
 // `+` puts two together, `|` joins two; `<` and `>` are links from here and to here, with `p`, `s`
 // or `t` for a parent, a sibling or a twin, and `1` or `*` for how far; `#` counts along them.
 #[rattlefmt::skip]
-static READ: [(&str, &str); 90] = [
+static READ: [(&str, &str); 105] = [
     // Simple selectors.
     ("*", "*"),
     ("p", "p"),
@@ -61,7 +61,9 @@ static READ: [(&str, &str); 90] = [
     ("[k=v i]", "[k=v i]"),
     ("[k=V I]", "[k=V i]"),
     ("[k=\"v\"i]", "[k=v i]"),
-    ("[k=v s]", "[k=v]"),
+    ("[k=v s]", "[k=v s]"),
+    ("[k=V S]", "[k=V s]"),
+    ("[k='v's]", "[k=v s]"),
     ("[k=v/**/\\69]", "[k=v i]"),
     ("[k='']", "[k=]"),
     ("[k='a\\\nb']", "[k=ab]"),
@@ -69,6 +71,20 @@ static READ: [(&str, &str); 90] = [
     ("[k='\\'']", "[k=']"),
     ("[k='/*']", "[k=/*]"),
     ("[k=\"a]b\"]", "[k=a]b]"),
+    // Namespaces: none, any, and those that no prefix says.
+    ("*|p", "p"),
+    ("*|*", "*"),
+    ("*|P.x", "p &.x"),
+    ("|p", "* !"),
+    ("|*", "* !"),
+    ("|p.x", "* ! &.x"),
+    ("a |p", "a <p* * ! +"),
+    ("a > *|\\62 ", "a <p1 &b"),
+    ("[|k]", "[k]"),
+    ("[ |K = v ]", "[k=v]"),
+    ("[|k|=v]", "[k-v]"),
+    ("[*|k]", "[*|k]"),
+    ("[*|k=v i]", "[*|k=v i]"),
     // Combinators.
     ("a b", "a <p* &b"),
     ("a>b", "a <p1 &b"),
@@ -160,18 +176,26 @@ fn op_text(op: Op) -> &'static [u8] {
     }
 }
 
-fn add_value(
-    out: &mut Vec<u8>,
-    key: &[u8],
-    op: Op,
-    value: &[u8],
-    folds: bool,
-) -> Result<(), AllocError> {
-    out.extend_from_slice(b"[")?;
-    out.extend_from_slice(key)?;
+fn case_text(case: Case) -> &'static [u8] {
+    match case {
+        Case::Unsaid => b"]",
+        Case::Folded => b" i]",
+        Case::Exact => b" s]",
+    }
+}
+
+fn add_key(out: &mut Vec<u8>, space: Space, key: &[u8]) -> Result<(), AllocError> {
+    out.extend_from_slice(match space {
+        Space::Bare => b"[",
+        Space::Every => b"[*|",
+    })?;
+    out.extend_from_slice(key)
+}
+
+fn add_value(out: &mut Vec<u8>, op: Op, value: &[u8], case: Case) -> Result<(), AllocError> {
     out.extend_from_slice(op_text(op))?;
     out.extend_from_slice(value)?;
-    out.extend_from_slice(if folds { b" i]" } else { b"]" })
+    out.extend_from_slice(case_text(case))
 }
 
 fn add_marked(out: &mut Vec<u8>, mark: &[u8], name: &[u8], end: &[u8]) -> Result<(), AllocError> {
@@ -186,9 +210,13 @@ fn add_test(out: &mut Vec<u8>, test: &Test) -> Result<(), AllocError> {
         Test::Name(name) => out.extend_from_slice(name.lower.as_slice()),
         Test::Id(id) => add_marked(out, b"#", id.as_slice(), b""),
         Test::Class(class) => add_marked(out, b".", class.as_slice(), b""),
-        Test::Key(key) => add_marked(out, b"[", key.lower.as_slice(), b"]"),
-        Test::Value(key, op, value, folds) => {
-            add_value(out, key.lower.as_slice(), *op, value.as_slice(), *folds)
+        Test::Key(space, key) => {
+            add_key(out, *space, key.lower.as_slice())?;
+            out.extend_from_slice(b"]")
+        }
+        Test::Value(space, key, op, value, case) => {
+            add_key(out, *space, key.lower.as_slice())?;
+            add_value(out, *op, value.as_slice(), *case)
         }
         Test::Empty => out.extend_from_slice(b"<>"),
         Test::May(anchor) => out.extend_from_slice(match anchor {

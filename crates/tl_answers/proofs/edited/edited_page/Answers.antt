@@ -1,5 +1,6 @@
 use Rattle.std.proofs.Common.{rules, Err, List, ℕ, ◌≡◌}
-use Rattle.tl_answers.specs.Edits.{IsOfPage, refusal_of_read}
+use Rattle.tl_answers.specs.Edits.{refusal_of_read}
+use Rattle.tl_tree.specs.Pages.{IsOfPage}
 use Rattle.tl_answers.proofs.Edits.{done_of_page, read_refused, undone_of_page, unread_page}
 use Rattle.tl_answers.proofs.edited.edited_page.Goals as goal
 

@@ -7,7 +7,7 @@ use Rattle.tl_answers.proofs.field.put_readable.Goals as goal
 
 pub returns : goal.returns
 returns c =
-    let text : List ℕ = readable_below [] (rows_in c.args.tree.now) c.args.number in
+    let text : List ℕ = readable_below c.args.left_out.now (rows_in c.args.tree.now) c.args.number in
     let after : c.write_readable_text.new.out.items ≡ c.args.out.now.items ++ text = c.in_ok-write_readable_text.ensures in
     let other = c.if-len-start.false in
     let long : c.len.result ≡ length c.write_readable_text.new.out.items = search (rules, c.len.ensures) in

@@ -9,15 +9,15 @@ use Rattle.tl_tree_select.specs.Page.{Page, page_of}
 use Rattle.tl_answers.proofs.page.answer_of_page.Goals as goal
 
 pub returns-clause-made : goal.returns-clause-made
-returns-clause-made c = λ ns selected.
+returns-clause-made c = λ m selected.
     let page : List ℕ = c.args.page.now in
     let question = c.args.question.now in
     let tree = c.in_ok-tree.tree in
     let rows : rows_in tree ≡ rows_of (html_tree page).trees = c.in_ok-tree.ensures.tree in
     let same : page_of tree ≡ searched page = page_is page tree rows c.in_ok-tree.ensures.quirks in
-    let asked : AreSelected question (page_of tree) ns = subst (λ (p : Page). AreSelected question p ns) (sym same) selected in
-    answered page tree rows question ns c.args.end.now c.answer.result c.in_ok-tree.ensures.in_proportion c.in_ok-tree.ensures.sources
-    (c.answer.ensures.made (html_tree page).trees ns rows asked) c.answer.ensures.fits
+    let asked : AreSelected question (page_of tree) m = subst (λ (p : Page). AreSelected question p m) (sym same) selected in
+    answered page tree rows question m c.args.end.now c.answer.result c.in_ok-tree.ensures.in_proportion c.in_ok-tree.ensures.sources
+    (c.answer.ensures.made (html_tree page).trees m rows asked) c.answer.ensures.fits
 
 pub returns-clause-told : goal.returns-clause-told
 returns-clause-told c =

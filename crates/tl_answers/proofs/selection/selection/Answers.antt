@@ -8,9 +8,9 @@ use Rattle.tl_tree_select.specs.Page.{page_of}
 use Rattle.tl_answers.proofs.selection.selection.Goals as goal
 
 pub returns : goal.returns
-returns c = λ trees ns same found.
+returns c = λ trees m same asked.
     let query = c.args.query.now in
-    let one : c.in_ok-numbers.numbers.items ≡ ns = found_once (page_of c.args.tree.now) query.selector.now c.in_ok-numbers.numbers.items ns c.in_ok-numbers.ensures found in
+    let one : c.in_ok-numbers.numbers.items ≡ m.found = found_once (page_of c.args.tree.now) query.selector.now c.in_ok-numbers.numbers.items m.found c.in_ok-numbers.ensures asked.found in
     let lent : c.deref.result.now ≡ c.in_ok-numbers.numbers.items = search rules in
-    let meant : c.front-meant.result.now ≡ front query.most ns = c.front-meant.ensures ∙ ap (front query.most) (lent ∙ one) in
-    subst (λ (numbers : List ℕ). IfOk c.list.result (λ output. finding_of output ≡ listing_of query.listing c.args.end.now trees (source_at c.args.tree.now) numbers)) meant (c.list.ensures trees same)
+    let meant : c.front-meant.result.now ≡ front query.most m.found = c.front-meant.ensures ∙ ap (front query.most) (lent ∙ one) in
+    subst (λ (numbers : List ℕ). IfOk c.list.result (λ output. finding_of output ≡ listing_of query.listing c.args.end.now trees (source_at c.args.tree.now) numbers m.left_out)) meant (c.list.ensures trees m.left_out same asked.left_out)
