@@ -196,11 +196,26 @@ def refusal(page, rows, word, content):
     untagged = next((row for row in rows if row.place is None), None)
     if untagged and word != "unset":
         return f"the element that is put in at byte {page.byte(page.put_in_before(untagged))} has no tag"
+    broken = None if word in TAG_WORDS else next((row for row in reversed(rows) if page.crossings(row)), None)
+    if broken:
+        return not_whole_line(page, broken)
     for place in page.places_of(rows):
         if not page.begins_tag(place):
             at = page.byte(place)
             return f"the element at byte {at} has no start tag" if word in TAG_WORDS else f"no start tag at byte {at}"
     return None if word in TAG_WORDS else refusal_of_elements(page, page.tags_of(rows), word, content)
+
+
+def line_and_column(page, place):
+    """Of a place in a page, from 1, in bytes."""
+    before = page.text[:place]
+    return f"line {before.count(chr(10)) + 1}, column {len(before.rpartition(chr(10))[2].encode()) + 1}"
+
+
+def not_whole_line(page, row):
+    """What is said of the last element that isn't whole, with a place where it is crossed."""
+    places = "|".join(line_and_column(page, at) for at in sorted(page.crossings(row)))
+    return f"the element at {line_and_column(page, row.place)} isn't whole, .* what begins at (?:{places}) is in it .*"
 
 
 def refusal_of_elements(page, found, word, content):

@@ -2,8 +2,10 @@
 
 The tokens are those of the tokenizer by itself, which knows raw texts by the names of tags (html_tokenizer.py). The tree, in which a selector
 finds elements, is that of the standard, without scripts (tree_model.py); its nodes know the place of their token. How far an element goes
-is told by the rules of end tags (end_tags.py).
+is told by the rules of end tags (end_tags.py); whether it is whole so, by the nodes that come of its bytes.
 """
+import bisect
+
 from .css import definition
 from .end_tags import RAW, Balance
 from .html_tokenizer import RCDATA, Tokenizer
@@ -125,6 +127,7 @@ class Page:
         self.numbers = {begin: at for at, begin in enumerate(self.begins[:-1])}
         self.rows = []
         self.add_rows(Builder(text.removeprefix(MARK)).run(), None, original)
+        self.sources = [(row, self.source(row)) for row in self.rows if row.place is not None]
         self.read_elements()
 
     def add_rows(self, nodes, parent, original):
@@ -166,6 +169,38 @@ class Page:
         if name == "html":
             return (own[0], True) if own else (len(self.tokens), False)
         return (tags[0], tags[0] in own) if tags else (len(self.tokens), False)
+
+    # Whether elements are whole
+
+    def source(self, row):
+        """Where a node comes from: its token, or of a text what stands behind the token before it that is no text. Where the tokenizer by
+        itself reads a raw text, that is where the text begins."""
+        if row.node.kind != "text" or row.place is None:
+            return row.place
+        at = bisect.bisect_right(self.begins, row.place) - 1
+        if self.raw_name(at):
+            return row.place
+        while at and self.tokens[at - 1][0] in ("text", "nothing"):
+            at -= 1
+        return self.begins[at]
+
+    def stretch(self, row):
+        """The bytes of an element by its end tags, from one place up to another; None where its tag begins no element."""
+        at = self.numbers.get(row.place)
+        if at not in self.ends:
+            return None
+        end, is_own = self.ends[at]
+        return self.begins[at], self.begins[end + 1 if is_own or end == at else end]
+
+    def crossings(self, row):
+        """Where what crosses an element comes from, up to the tail: what comes of its bytes and doesn't stand in it, or the other way round.
+        It is whole where nothing does."""
+        stretch = self.stretch(row)
+        if stretch is None:
+            return set()
+        begin, until = stretch
+        tail = self.begins[self.tail()]
+        return {at for other, at in self.sources if at < tail and (begin <= at < until) != row.holds(other)}
 
     # What a selector finds
 

@@ -2,10 +2,11 @@
 
     ./x compare edits [--program FILE] [--edits N] [--seed N] [--words set,remove] [--chromium [--doms N]] [FOLDER ..]
 
-Of each page the plain reader (edit_page.py) says by the tree of the standard which elements a selector finds, where their tags stand and
-how far they go; and the model of patches (edit_model.py) what comes of the page, or why it is refused: what is said then has to be that,
-but for the place where patches cut across each other or what is put can't stand. Each byte outside of these places has to be as it was;
-html5lib's tokenizer has to read the tokens that are asked for, where it reads the page itself as the plain reader does.
+Of each page the plain reader (edit_page.py) says by the tree of the standard which elements a selector finds, where their tags stand, how
+far they go and whether they are whole so; and the model of patches (edit_model.py) what comes of the page, or why it is refused: what is
+said then has to be that, but for the place where patches cut across each other or what is put can't stand. Each byte outside of these
+places has to be as it was; html5lib's tokenizer has to read the tokens that are asked for, where it reads the page itself as the plain
+reader does.
 
 With folders the pages in them are edited too, and html5lib's trees compared: with a key set or unset at all tags of a name, or with
 such elements gone, it has to be the tree of the page with just that done.

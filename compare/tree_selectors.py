@@ -2,12 +2,14 @@
 
 A document is searched, or below an element of it, or behind it, or from one outwards. Of those below and behind, some are asked for by
 relative selectors, and Chromium for the same with `:scope` before each combinator that stands first. Chromium asks elements of svg and math for names and keys in any
-case, so what has such elements is asked in exact case, and names are written in any case where there are none.
+case, so what has such elements is asked in exact case, and names are written in any case where there are none. It reads no flag `s`:
+each element there has its attributes a second time, behind `exact-`, and is asked for these in exact case.
 
 Elements are told by their numbers among those of the document, without the contents of templates. Pages of which Chromium builds another
 tree are left out.
 """
 import random
+import re
 
 from tools.running import run
 from tools.unproved import helper_build
@@ -27,6 +29,8 @@ DOCTYPES = ["", "<!doctype html>", "<!doctype html><html lang=en><head><title>t<
 OPS = ["=", "~=", "|=", "^=", "$=", "*="]
 PLAIN = "first-child last-child only-child first-of-type last-of-type only-of-type root scope scope empty".split()
 COUNTED = "nth-child nth-last-child nth-of-type nth-last-of-type".split()
+# A test with a flag `s`.
+EXACT = re.compile(r'\[(\*\||\|?)([^]="~|^$*]+)([~|^$*]?=)("[^"]*") s\]')
 FORMULAS = ["1", "2", "odd", "even", "2n+1", "-n+2", "3n", "n+2", "n"]
 # So many pages with so many selectors are asked at once.
 PAGES, SELECTORS = 50, 200
@@ -71,9 +75,12 @@ class Maker:
         key = self.chance.choice(KEYS)
         return (key.lower() if self.is_foreign and key in ("DIR", "Rel") else self.cased(key)).replace(":", "\\:")
 
+    def space(self):
+        return self.chance.choice(["", "", "", "", "|", "*|"])
+
     def test(self):
         value = self.chance.choice(VALUES).replace("\t", "\\9 ")
-        return f'[{self.key()}{self.chance.choice(OPS)}"{value}"{self.chance.choice(["", "", "", " i"])}]'
+        return f'[{self.space()}{self.key()}{self.chance.choice(OPS)}"{value}"{self.chance.choice(["", "", "", " i", " s"])}]'
 
     def simple(self, depth):
         kind = self.chance.choices(("id", "class", "key", "value", "plain", "counted", "nested"), (14, 16, 10, 22, 18, 10, 10))[0]
@@ -82,7 +89,7 @@ class Maker:
         return {
             "id": lambda: "#" + self.chance.choice(WORDS),
             "class": lambda: "." + self.chance.choice(WORDS),
-            "key": lambda: f"[{self.key()}]",
+            "key": lambda: f"[{self.space()}{self.key()}]",
             "value": self.test,
             "counted": lambda: f":{self.chance.choice(COUNTED)}({self.chance.choice(FORMULAS)})",
         }.get(kind, lambda: ":" + self.chance.choice(PLAIN))()
@@ -96,6 +103,8 @@ class Maker:
 
     def compound(self, depth):
         name = self.cased(self.chance.choice([*self.names, "*", "body", "html", "head", "p", "td"])) if self.chance.random() < 0.6 else ""
+        if name and self.chance.random() < 0.15:
+            name = self.chance.choice(["*|", "*|", "*|", "|"]) + name
         return name + "".join(self.simple(depth) for _ in range(self.chance.choice([0, 0, 1, 1, 2] if name else [1, 1, 2])))
 
     def complex(self, depth):
@@ -112,14 +121,19 @@ class Maker:
         """A selector as it is asked for here, as Chromium is asked for it, and whether it is relative."""
         if search[0] not in ("below", "behind") or self.chance.random() < 0.3:
             whole = self.whole()
-            return whole, whole, False
+            return whole, exactly(whole), False
         joints = [">", "+", "~"] if search[0] == "behind" else [">", ">", "+", ""]
         parts = [(self.chance.choice(joints), self.chance.choice(["", " "]), self.complex(0)) for _ in range(self.chance.choice([1, 1, 2, 3]))]
         own = ", ".join(joint + gap * bool(joint) + it for joint, gap, it in parts)
-        return own, ", ".join((f":scope {joint} " if joint else "") + it for joint, gap, it in parts), True
+        return own, exactly(", ".join((f":scope {joint} " if joint else "") + it for joint, gap, it in parts)), True
 
     def selector(self, depth=0):
         return ", ".join(self.complex(depth) for _ in range(self.chance.choice([1, 1, 1, 2])))
+
+
+def exactly(selector):
+    """The same for Chromium, which reads no flag `s`."""
+    return EXACT.sub(r"[\1exact-\2\3\4]", selector)
 
 
 def found(program, selector, is_relative, search, pages):

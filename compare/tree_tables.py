@@ -62,6 +62,7 @@ class Reader:
     def __init__(self, table):
         self.width = self.height = self.current = 0
         self.cells, self.growing, self.rows, self.taken = [], [], [], set()
+        self.columns(table)
         feet = []
         for child in table.children:
             if child.name == "tr":
@@ -74,6 +75,14 @@ class Reader:
                     self.group(child)
         for foot in feet:
             self.group(foot)
+
+    def columns(self, table):
+        for child in table.children:
+            if child.name in ("thead", "tbody", "tfoot", "tr"):
+                return
+            if child.name == "colgroup":
+                for element in child.named("col") or [child]:
+                    self.width += min(number(element.attributes.get("span")) or 1, 1000)
 
     def group(self, group):
         for row in group.named("tr"):
@@ -130,6 +139,9 @@ class Reader:
 def made(chance):
     """A made-up table."""
     parts = ["<table>"]
+    for _ in range(chance.choice([0, 0, 0, 1, 1, 2])):
+        span = f' span="{chance.choice(SPANS)}"' if chance.random() < 0.35 else ""
+        parts.append(chance.choice([f"<colgroup{span}>", f"<col{span}>", f"<colgroup span=3><col{span}><col>", f"<tbody></tbody><col{span}>"]))
     for _ in range(chance.randint(1, 4)):
         group = chance.choice(["tbody", "tbody", "tbody", "thead", "tfoot", "tfoot", ""])
         if group:

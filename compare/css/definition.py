@@ -196,7 +196,15 @@ class Reader:
             return part() if e is None else ("both", e, part())
 
         at = self.i
-        if self.peek() == 0x2A:
+        if self.peek() == 0x7C:
+            self.i += 1
+            self.local()
+            e = taken(at, lambda: ("not", ("any",)))
+        elif self.peek() == 0x2A and self.peek(1) == 0x7C:
+            self.i += 2
+            local = self.local()
+            e = taken(at, lambda: local)
+        elif self.peek() == 0x2A:
             self.i += 1
             e = taken(at, lambda: ("any",))
         elif self.begins_name():
@@ -223,12 +231,22 @@ class Reader:
             else:
                 return e
 
+    def local(self):
+        """What stands behind the `|` of a type."""
+        if self.peek() == 0x2A:
+            self.i += 1
+            return ("any",)
+        return ("name", lower(self.name()))
+
     def attribute(self):
         opened = self.i
         self.i += 1
         self.white()
-        if self.peek() == 0x7C or self.peek() == 0x2A and self.peek(1) == 0x7C:
-            raise CssError(self.i, "namespace")
+        # no key of these documents has a namespace
+        if self.peek() == 0x7C:
+            self.i += 1
+        elif self.peek() == 0x2A and self.peek(1) == 0x7C:
+            self.i += 2
         key = lower(self.name())
         self.white()
         b = self.peek()
