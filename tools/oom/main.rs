@@ -27,7 +27,6 @@ mod pages;
 mod patches;
 mod policies;
 mod program;
-mod questions;
 mod script;
 mod selectors;
 mod stop;
@@ -78,9 +77,8 @@ fn call(number: usize, case: &mut Case) -> Option<Named> {
         13 => tags::call(place, case),
         14 => pages::call(place, case),
         15 => writes::call(place, case),
-        16 => questions::call(place, case),
-        17 => policies::call(place, case),
-        18 => asked::call(place, case),
+        16 => policies::call(place, case),
+        17 => asked::call(place, case),
         _ => None,
     }
 }

@@ -1,30 +1,24 @@
-//! What texts, names and tags of HTML say, trees of pages, and pages in an encoding.
+//! What texts, names and tags of HTML say, documents and trees of pages, and pages in an encoding.
 use crate::case::Case;
 use crate::stop::{Stop, value};
 use crate::{Named, measured};
 use std::alloc::Global;
+use tl::ParserOptions;
 use tl_encoding::{Encoding, decode};
-use tl_html_parts::{characters, comment, tag_parts};
+use tl_html_parts::{characters, comment, lower_name, tag_parts};
 use tl_html_print::{write_document, write_pretty};
 use tl_html_tokens::{Mode, tokens};
-use tl_html_write::{coded_name, lower_name, uncoded_name};
 use tl_lines::LineIndex;
-use tl_text::{
-    escape_text, escape_value, unescape_text, unescape_text_str, unescape_value, unescape_value_str,
-};
+use tl_page::read;
+use tl_text::{unescape_text, unescape_value};
 use tl_tree::{Context, Flags, Namespace, Tree};
 
 // What is called.
 #[derive(Clone, Copy)]
 enum PageCall {
-    EscapeText,
-    EscapeValue,
+    Read,
     UnescapeText,
     UnescapeValue,
-    UnescapeTextStr,
-    UnescapeValueStr,
-    CodedName,
-    UncodedName,
     Comment,
     Characters,
     LowerName,
@@ -44,15 +38,10 @@ enum PageCall {
 type Row = (&'static str, PageCall, &'static [u8], &'static [u8]);
 
 #[rattlefmt::skip]
-static ROWS: [Row; 27] = [
-    ("escape_text", PageCall::EscapeText, b"a<b&c", b"a&lt;b&amp;c"),
-    ("escape_value", PageCall::EscapeValue, b"a\"b", b"a&quot;b"),
+static ROWS: [Row; 22] = [
+    ("read of a page", PageCall::Read, b"<p id=i class=k>x &lt;", b"x &lt;"),
     ("unescape_text", PageCall::UnescapeText, b"a&lt;b", b"a<b"),
     ("unescape_value", PageCall::UnescapeValue, b"?a&lt=1&quot;", b"?a&lt=1\""),
-    ("unescape_text_str", PageCall::UnescapeTextStr, b"a&lt;b", b"a<b"),
-    ("unescape_value_str", PageCall::UnescapeValueStr, b"?a&lt=1&quot;", b"?a&lt=1\""),
-    ("coded_name", PageCall::CodedName, b"@click", b"+40click"),
-    ("uncoded_name", PageCall::UncodedName, b"+40click", b"@click"),
     ("comment, as it is", PageCall::Comment, b"<!--a-->", b"a"),
     ("comment with a line end", PageCall::Comment, b"<!--a\r\nb-->", b"a\nb"),
     ("comment with a line end and a NUL", PageCall::Comment, b"<!--\r\x00-->", b"\n\xEF\xBF\xBD"),
@@ -79,6 +68,7 @@ pub fn call(number: usize, case: &mut Case) -> Option<Named> {
     let row = ROWS.get(number)?;
     let (name, call, _, _) = *row;
     let answer = match call {
+        PageCall::Read => read_page(row, case),
         PageCall::Comment | PageCall::Characters => read_text(row, case),
         PageCall::LowerName => lower(row, case),
         PageCall::TagParts => read_tag(row, case),
@@ -92,6 +82,13 @@ pub fn call(number: usize, case: &mut Case) -> Option<Named> {
     Some((name, answer))
 }
 
+fn read_page(row: &Row, case: &mut Case) -> Result<(), Stop> {
+    let (_, _, page, wanted) = *row;
+    let answer = measured!(case, read(case.alloc(), page, ParserOptions::new()));
+    let text = answer?.inner_text(case.alloc())?;
+    value(text.as_bytes() == wanted)
+}
+
 fn make(row: &Row, case: &mut Case) -> Result<(), Stop> {
     let (_, call, bytes, wanted) = *row;
     let answer = measured!(case, made(case.alloc(), call, bytes));
@@ -100,16 +97,12 @@ fn make(row: &Row, case: &mut Case) -> Result<(), Stop> {
 
 fn made(alloc: Global, call: PageCall, bytes: &[u8]) -> Result<Vec<u8>, Stop> {
     match call {
-        PageCall::EscapeText => Ok(escape_text(alloc, bytes)?),
-        PageCall::EscapeValue => Ok(escape_value(alloc, bytes)?),
         PageCall::UnescapeText => Ok(unescape_text(alloc, bytes)?),
         PageCall::UnescapeValue => Ok(unescape_value(alloc, bytes)?),
-        PageCall::CodedName => Ok(coded_name(alloc, bytes)?),
-        PageCall::UncodedName => Ok(uncoded_name(alloc, bytes)?),
         PageCall::Print => print(alloc, bytes),
         PageCall::Pretty => pretty(alloc, bytes),
         PageCall::Lines => lines(alloc, bytes),
-        _ => made_of_text(alloc, call, str::from_utf8(bytes).unwrap_or("")),
+        _ => Err(Stop::WrongValue),
     }
 }
 
@@ -130,14 +123,6 @@ fn print(alloc: Global, page: &[u8]) -> Result<Vec<u8>, Stop> {
     let mut out = Vec::new(alloc);
     write_document(&tree, FLAGS.is_scripting, &mut out)?;
     Ok(out)
-}
-
-fn made_of_text(alloc: Global, call: PageCall, text: &str) -> Result<Vec<u8>, Stop> {
-    match call {
-        PageCall::UnescapeTextStr => Ok(unescape_text_str(alloc, text)?.into_bytes()),
-        PageCall::UnescapeValueStr => Ok(unescape_value_str(alloc, text)?.into_bytes()),
-        _ => Err(Stop::WrongValue),
-    }
 }
 
 fn read_text(row: &Row, case: &mut Case) -> Result<(), Stop> {
