@@ -28,7 +28,7 @@ NAME = re.compile(r"[\w:]+(?:\{[\w, ]+\})?$")
 def sources(workspace, crate):
     """Of a crate its calls with their clauses, and all words of its sources."""
     calls, words = {}, {crate}
-    for path in workspace.files(crate, ("mutants",)):
+    for path in workspace.files(crate):
         kind = CLAUSES.get(os.path.splitext(path)[1])
         if not kind:
             continue

@@ -66,12 +66,12 @@ class Workspace:
                 found += [other for other in [*self.below(it), it] if other not in found]
         return found
 
-    def files(self, name, left_out=()):
-        """The files of a crate by their paths in the workspace, but for those of what was made of it and of these folders."""
+    def files(self, name):
+        """The files of a crate by their paths in the workspace, but for those of what was made of it."""
         found = []
         for at, folders, files in os.walk(self.folder(name)):
             if at == self.folder(name):
-                folders[:] = [it for it in folders if it not in ("out", *left_out)]
+                folders[:] = [it for it in folders if it != "out"]
             found += [os.path.relpath(f"{at}/{it}", self.root) for it in files]
         return sorted(found)
 

@@ -1,9 +1,9 @@
 """Tries mutants, wrong bodies that the prover has to refuse.
 
-    ./x mutants [--jobs N] [NAME..]    tries those of crates/*/mutants, or of the named crates, on at most N crates side by side; of
-                                       NAME/WORD those whose file names begin with the word
+    ./x mutants [--jobs N] [NAME..]    tries those of crates/*/mutants.txt, or of the named crates, on at most N crates side by side; of
+                                       NAME/WORD those whose names begin with the word
     ./x mutants --gate [--jobs N]      tries those of tools/mutants/gate.list, as the gate does, over crates that are proved
-    ./x mutants --look                 says which don't fit the text that they change, and proves nothing
+    ./x mutants --look                 says which don't fit the text that they change or are out of order, and proves nothing
     ./x mutants --test                 tries the samples of tools/mutants/samples.txt, whose readings are known
 
 A crate is proved first, over what `rt` kept. Many mutants are tried in one check, over a copy of that work: at most one of a
@@ -37,20 +37,21 @@ import os
 import tempfile
 import time
 
+from ..mutants import mutant
 from ..mutants.crate import Crate
 from ..mutants.trial import Trials, minutes
 from ..mutants.verdict import REFUSED
 from ..workspace import ROOT, Workspace, cores, put, text_of
 
-# Where mutants stand, and where none does.
-FOLDER, STRAYS = "mutants", ("edits", "must-fail")
+# Folders in which the toolchain, or the tools before, looked for mutants.
+STRAYS = ("edits", "must-fail", "mutants")
 # The mutants that the gate tries, a line each.
 OF_THE_GATE = "tools/mutants/gate.list"
 
 
 def fitting(crate, words, say):
     """The mutants of a crate that begin with these words and fit its text, and how many don't."""
-    mutants = [it for it in crate.mutants(FOLDER) if it.name.startswith(words)]
+    mutants = [it for it in crate.mutants() if it.name.startswith(words)]
     lost = [it for it in mutants if not it.pairs or it.put_into({}) is None]
     for it in lost:
         say(f"{crate.name}/{it.name}: IT DOESN'T FIT the text that it changes")
@@ -84,17 +85,22 @@ def look(names=()):
     work, lost = mutants_of(workspace, names or workspace.libraries, say)
     strays = [f"{it}/{folder}" for it in workspace.libraries for folder in STRAYS if os.path.isdir(f"{workspace.folder(it)}/{folder}")]
     for it in strays:
-        say(f"crates/{it}: mutants stand in the crate's folder {FOLDER}")
-    gone = [it for it in of_the_gate() if not os.path.isfile("{}/{}/{}".format(workspace.folder(it.split("/")[0]), FOLDER, it.split("/")[1]))]
+        say(f"crates/{it}: mutants stand in the crate's file {mutant.FILE}")
+    there = {name: [it.name for it in Crate(workspace, name).mutants()] for name in workspace.libraries}
+    mixed = [name for name, names in there.items() if names != sorted(set(names))]
+    for it in mixed:
+        say(f"crates/{it}/{mutant.FILE}: the names are out of order, or one stands there twice")
+    gone = [it for it in of_the_gate() if it.split("/")[1] not in there.get(it.split("/")[0], ())]
     for it in gone:
         say(f"{OF_THE_GATE}: {it} is not there")
-    if not lost and not strays and not gone:
+    is_well = not lost and not strays and not mixed and not gone
+    if is_well:
         say(f"{sum(len(mutants) for _, mutants in work)} fit the texts that they change")
-    return not lost and not strays and not gone
+    return is_well
 
 
 def of_the_gate():
-    """The mutants that the gate tries, as CRATE/FILE."""
+    """The mutants that the gate tries, as CRATE/NAME."""
     lines = [it.partition("#")[0].strip() for it in text_of(f"{ROOT}/{OF_THE_GATE}").splitlines()]
     return [it for it in lines if it]
 
@@ -116,13 +122,11 @@ def tell(found, lost, started):
 def check_samples():
     """Tries the samples, and says which of them is read as something else than stands beside it. Whether none is."""
     with tempfile.TemporaryDirectory(prefix="mutants-samples-") as room:
-        expected = {}
         for part in text_of(f"{ROOT}/tools/mutants/samples.txt").split("\n== ")[1:]:
-            head, _, text = part.partition("\n")
-            path, _, kind = head.partition(": ")
+            path, _, text = part.partition("\n")
             put(f"{room}/{path}", text)
-            if kind:
-                expected[os.path.basename(path)] = kind
+        lines = text_of(f"{room}/verdicts").splitlines()
+        expected = dict(it.split(": ", 1) for it in lines if it)
         workspace = Workspace(room)
         found, _ = try_mutants(workspace, workspace.libraries, 1)
         read = {it.name: kind + " without its answers" * (kind == REFUSED and bool(why)) for it, (kind, why) in found.items()}

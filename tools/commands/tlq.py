@@ -25,7 +25,7 @@ def main(parser, words):
         parser.parse_args(words)
     workspace = Workspace()
     below = [*workspace.below(CRATE), CRATE]
-    files = [it for name in below for it in workspace.files(name, ("mutants",))]
+    files = [it for name in below for it in workspace.files(name) if not it.endswith("/mutants.txt")]
     state = programs.digest(workspace.root, [*files, "crates.txt", "HANDLES"], workspace.kit)
     program = f"{workspace.folder(CRATE)}/out/of-{state}"
     if not os.access(program, os.X_OK):

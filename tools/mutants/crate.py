@@ -5,9 +5,9 @@ import subprocess
 import tempfile
 
 from ..workspace import Stop, put, text_of
+from . import mutant
 from .alone import Alone, strays
 from .function import HEAD, Function
-from .mutant import Mutant
 from .verdict import Said
 
 PARTS = ("src", "specs", "proofs")
@@ -45,9 +45,10 @@ class Crate:
         found = [(it.has_lemmas, it.among(names)) for it in functions]
         return set().union(*[its for lemmas, its in found if not lemmas]).difference(*[its for lemmas, its in found if lemmas])
 
-    def mutants(self, folder):
-        at = f"{self.folder}/{folder}"
-        return [Mutant(self, f"{at}/{it}") for it in sorted(os.listdir(at))] if os.path.isdir(at) else []
+    def mutants(self):
+        """Those of the crate's file of mutants."""
+        at = f"{self.folder}/{mutant.FILE}"
+        return [mutant.Mutant(self, *it) for it in mutant.parts(text_of(at))] if os.path.isfile(at) else []
 
     def needs(self):
         """The memory that a check takes: 0.7 GB, and some three times what is kept (1.2 GB for 270 MB, 3 GB for 690 MB)."""

@@ -1,19 +1,40 @@
-"""Mutants: wrong bodies, each as texts of a crate's files and what is put in their place."""
-import os
+"""Mutants: wrong bodies, each as texts of a crate's files and what is put in their place.
+
+A crate's mutants stand in its file mutants.txt, in the order of their names:
+
+    mutant: TYPE.FUNCTION.WHAT
+    file: src/lib.rt
+    old: a text that stands in one line of this file, once
+    new: what is put in its place
+
+with one line `file` for the pairs of `old` and `new` behind it, of which there may be several.
+"""
 import re
 
-from ..workspace import text_of
+FILE = "mutants.txt"
+HEAD = "mutant: "
+
+
+def parts(text):
+    """The name of each mutant of such a file, and its lines."""
+    found = []
+    for line in text.split("\n"):
+        if line.startswith(HEAD):
+            found.append((line[len(HEAD) :].strip(), []))
+        elif found:
+            found[-1][1].append(line)
+    return found
 
 
 class Mutant:
     """A wrong body: texts of a crate's files, and what is put in their place."""
 
-    def __init__(self, crate, file):
-        self.crate, self.name, self.pairs = crate, os.path.basename(file), []
+    def __init__(self, crate, name, lines):
+        self.crate, self.name, self.pairs = crate, name, []
         # the answers that don't fit it, and of each of their files the lines of those that are left out, none for all
         self.misfits, self.left_out, self.is_alone = [], {}, False
         path = old = ""
-        for line in text_of(file).split("\n"):
+        for line in lines:
             if line.startswith("file: "):
                 path = line[len("file: ") :].strip()
             elif line.startswith("old: "):
