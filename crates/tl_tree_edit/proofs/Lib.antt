@@ -1,6 +1,8 @@
 pub mod Lists
 pub mod Nodes
-pub mod Seats
-pub mod Texts
-pub mod TextRows
 pub mod ElementNodes
+pub mod Holding
+pub mod Following
+pub mod Saying
+pub mod Ending
+pub mod Reading

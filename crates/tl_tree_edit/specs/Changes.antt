@@ -1,23 +1,40 @@
--- Changes of a tree, as of its rows: what they are afterwards, without where they come from.
+-- Changes of a tree: what it says once they are made. Where markup comes to stand is named as the
+-- DOM standard names it: before an element begins (`before`), behind where it begins (`front`),
+-- before its end (`back`), behind its end (`behind`).
 use Rattle.std.specs.List.{list_any}
-use Rattle.std.specs.Option.{option_and_then, option_map}
-use Rattle.std.specs.Prelude.{Bool, List, None, Option, Some, [], false, filter, if◌then◌else◌, map, min, not, suc, take, drop, true, zero, ℕ, ◌&&◌, ◌+◌, ◌++◌, ◌-◌, ◌==◌, ◌∷◌}
+use Rattle.std.specs.Prelude.{Bool, List, None, Option, Some, [], false, filter, if◌then◌else◌, nat_lt, not, suc, true, ℕ, ◌&&◌, ◌++◌, ◌==◌, ◌∷◌}
 use Rattle.std.specs.Str.{bytes_eq}
-use Rattle.tl_dom_spec.specs.Marks.{unmarked}
 use Rattle.tl_dom_spec.specs.Tags.{Attribute, no_space}
-use Rattle.tl_tree.specs.Asked.{end_at, has_no_space, node_at, parent_at}
-use Rattle.tl_tree.specs.Rows.{Node, Row, a_text, an_element}
-use Rattle.tl_tree_edit.specs.Bare.{bare, bare_rows}
-use Rattle.tl_tree_edit.specs.Lists.{changed_at}
+use Rattle.tl_tree.specs.Asked.{has_no_space}
+use Rattle.tl_tree.specs.Rows.{Node, Row, an_element}
+use Rattle.tl_tree_edit.specs.Bare.{bare}
+use Rattle.tl_tree_edit.specs.Events.{Event, Step, begins, ends, events, has_end, kept, said}
 
--- One node
+-- What is done to an element; rows are those of the trees that are put in
+pub data Change : Type 0 where
+  -- a key has a value, in the place of the one that stood there, or else in front
+  Set : List ℕ → List ℕ → Change
+  -- the element has another name
+  Rename : List ℕ → Change
+  -- a key goes
+  Unset : List ℕ → Change
+  -- the element goes, with all that stands in it
+  Remove : Change
+  -- it goes, and what stands in it stays
+  Unwrap : Change
+  Replace : List Row → Change
+  Fill : List Row → Change
+  Before : List Row → Change
+  Prepend : List Row → Change
+  Append : List Row → Change
+  After : List Row → Change
 
--- a row with another node
-abbrev pub row_with : (Node → Node) → Row → Row
-row_with change row = record { node = change row.node; parent = row.parent; end = row.end }
+pub record Edit : Type 0 where
+  -- the element, or the contents of a template
+  pub number : ℕ
+  pub change : Change
 
-abbrev pub with_node : ℕ → (Node → Node) → List Row → List Row
-with_node number change rows = changed_at number (row_with change) rows
+-- One element
 
 -- an attribute has this key, and no namespace
 abbrev pub has_key : List ℕ → Attribute → Bool
@@ -54,89 +71,102 @@ with_attributes change (an_element tag) =
     })
 with_attributes change node = node
 
--- an element has a value at a key
-abbrev pub set : ℕ → List ℕ → List ℕ → List Row → List Row
-set number key value rows =
-    bare_rows (with_node number (with_attributes (with_value key value)) rows)
+-- an element of another name, and no other node
+abbrev pub with_name : List ℕ → Node → Node
+with_name name (an_element tag) =
+    an_element
+    (record {
+      space = tag.space;
+      name = name;
+      attributes = tag.attributes;
+      source = tag.source;
+    })
+with_name name node = node
 
--- an element has a key no longer
-abbrev pub unset : ℕ → List ℕ → List Row → List Row
-unset number key rows = bare_rows (with_node number (with_attributes (without_key key)) rows)
+abbrev pub changed_node : Change → Node → Node
+changed_node (Set key value) node = with_attributes (with_value key value) node
+changed_node (Rename name) node = with_name name node
+changed_node (Unset key) node = with_attributes (without_key key) node
+changed_node _ node = node
 
--- Rows that go
+-- What is put in, and what stays
 
--- rows from one number up to another
-pub record Gone : Type 0 where
-  pub from : ℕ
-  pub until : ℕ
+abbrev pub before : Change → Option (List Row)
+before (Before trees) = Some trees
+before (Replace trees) = Some trees
+before _ = None
 
--- what number a row has without these, or where it ends: how many rows before it are left
-abbrev pub moved : Gone → ℕ → ℕ
-moved gone number = min number gone.from + (number - gone.until)
+abbrev pub front : Change → Option (List Row)
+front (Prepend trees) = Some trees
+front (Fill trees) = Some trees
+front _ = None
 
-abbrev pub moved_row : Gone → Row → Row
-moved_row gone row = record {
-  node = bare row.node;
-  parent = option_map (moved gone) row.parent;
-  end = moved gone row.end;
+abbrev pub back : Change → Option (List Row)
+back (Append trees) = Some trees
+back _ = None
+
+abbrev pub behind : Change → Option (List Row)
+behind (After trees) = Some trees
+behind _ = None
+
+-- whether the element itself stays
+abbrev pub stays : Change → Bool
+stays Remove = false
+stays Unwrap = false
+stays (Replace trees) = false
+stays _ = true
+
+-- whether what stood in it goes
+abbrev pub is_emptied : Change → Bool
+is_emptied Remove = true
+is_emptied (Replace trees) = true
+is_emptied (Fill trees) = true
+is_emptied _ = false
+
+-- what trees say that are put in
+abbrev pub put : Option (List Row) → List Event
+put None = []
+put (Some trees) = events trees
+
+abbrev pub where_it_stays : Change → List Event → List Event
+where_it_stays change own = if stays change then own else []
+
+-- where it begins, and where it ends
+abbrev pub first_of : Change → Node → List Event
+first_of change node =
+    put (before change)
+    ++ (where_it_stays change (begins (bare (changed_node change node)) ∷ [])
+    ++ put (front change))
+
+abbrev pub last_of : Change → List Event
+last_of change = put (back change) ++ (where_it_stays change (ends ∷ []) ++ put (behind change))
+
+abbrev pub changed : Change → Row → Step
+changed change row = record {
+  first = first_of change row.node;
+  last = Some (last_of change);
+  is_over = is_emptied change;
+  end = row.end;
 }
 
-abbrev pub without : Gone → List Row → List Row
-without gone rows = map (moved_row gone) (take gone.from rows ++ drop gone.until rows)
+-- All rows
 
--- A row that is removed
+-- the edits that are left once those of the numbers before this one are passed
+abbrev pub due : ℕ → List Edit → List Edit
+due n [] = []
+due n (e ∷ edits) = if nat_lt e.number n then due n edits else e ∷ edits
 
--- a row that ends there, and what is below it; nothing where there is no such row
-abbrev pub range_to : ℕ → Option ℕ → Gone
-range_to number None = record { from = 0; until = 0 }
-range_to number (Some end) = record { from = number; until = number + (end - number) }
+-- what is said of a row, by the first of these edits if that is of its number
+abbrev pub step_at : ℕ → List Edit → Row → Step
+step_at n [] row = kept row
+step_at n (e ∷ edits) row =
+    if e.number == n && has_end row.node then changed e.change row else kept row
 
-abbrev pub range_of : List Row → ℕ → Gone
-range_of rows number = range_to number (end_at rows number)
+abbrev pub steps_from : List Edit → ℕ → List Row → List Step
+steps_from edits n [] = []
+steps_from edits n (row ∷ rows) =
+    step_at n (due n edits) row ∷ steps_from edits (suc n) rows
 
-abbrev pub text_in : Node → Option (List ℕ)
-text_in (a_text own) = Some own.said
-text_in _ = None
-
--- what a text says, and no other row
-abbrev pub text_at : List Row → ℕ → Option (List ℕ)
-text_at rows number = option_and_then text_in (node_at rows number)
-
-abbrev pub is_same_number : Option ℕ → Option ℕ → Bool
-is_same_number None None = true
-is_same_number (Some one) (Some other) = one == other
-is_same_number _ _ = false
-
--- what two texts say, if both are texts that stand in the same row
-abbrev pub both_texts : List Row → ℕ → ℕ → Option (List ℕ)
-both_texts rows one other =
-    if is_same_number (parent_at rows one) (parent_at rows other)
-    then option_and_then
-    (λ (first : List ℕ). option_map (λ (second : List ℕ). first ++ second) (text_at rows other))
-    (text_at rows one)
-    else None
-
--- what the text before rows that go says with the text behind them, which comes to stand beside it
-abbrev pub joined_from : List Row → ℕ → ℕ → Option (List ℕ)
-joined_from rows zero until = None
-joined_from rows (suc last) until = both_texts rows last until
-
-abbrev pub joined : List Row → Gone → Option (List ℕ)
-joined rows gone = joined_from rows gone.from gone.until
-
-abbrev pub say : List ℕ → Node → Node
-say text node = a_text (unmarked text)
-
--- these rows, and the one behind them
-abbrev pub widened : Gone → Gone
-widened gone = record { from = gone.from; until = suc gone.until }
-
--- where texts come to stand side by side they are one
-abbrev pub without_joined : List Row → Gone → Option (List ℕ) → List Row
-without_joined rows gone None = without gone rows
-without_joined rows gone (Some text) =
-    without (widened gone) (with_node (gone.from - 1) (say text) rows)
-
-abbrev pub removed : ℕ → List Row → List Row
-removed number rows =
-    let gone = range_of rows number in without_joined rows gone (joined rows gone)
+-- what a tree says once these edits are made, which are in the order of their numbers
+abbrev pub edited : List Edit → List Row → List Event
+edited edits rows = said [] 0 0 (steps_from edits 0 rows)

@@ -1,21 +1,37 @@
 -- Words for worked rows. No contract cites them.
-use Prim.Native.String.{String}
-use Rattle.std.specs.Prelude.{List, ℕ}
+use Rattle.std.specs.Prelude.{List, [], codes, ℕ, ◌++◌, ◌∷◌}
 use Rattle.tl_dom_spec.specs.HtmlForest.{no_trees}
-use Rattle.tl_tree.specs.Examples.{an, says, shown}
+use Rattle.tl_tree.specs.Examples.{an, node_shown, says}
 use Rattle.tl_tree.specs.Rows.{Row, rows_of}
-use Rattle.tl_tree_edit.specs.Changes.{removed}
+use Rattle.tl_tree_edit.specs.Changes.{Change, Edit, edited}
+use Rattle.tl_tree_edit.specs.Events as event
+use Rattle.tl_tree_edit.specs.Events.{Event, events}
+
+-- the beginning of an element as its name in brackets, an end as a stroke
+abbrev pub shown : List Event → List ℕ
+shown [] = []
+shown (event.begins node ∷ events) = codes "<" ++ node_shown node ++ codes ">" ++ shown events
+shown (event.says byte ∷ events) = byte ∷ shown events
+shown (event.ends ∷ events) = codes "/" ++ shown events
 
 -- `<p>a<b>c</b>d</p>e`
 abbrev pub page : List Row
 page = rows_of (an "p" (says "a" (an "b" (says "c" no_trees) (says "d" no_trees))) (says "e" no_trees))
 
-abbrev pub without_row : ℕ → List ℕ
-without_row number = shown (removed number page)
+-- `x<i></i>`
+abbrev pub put_in : List Row
+put_in = rows_of (says "x" (an "i" no_trees no_trees))
 
--- `<p>a</p><i>b</i>c`
-abbrev pub beside : List Row
-beside = rows_of (an "p" (says "a" no_trees) (an "i" (says "b" no_trees) (says "c" no_trees)))
+abbrev pub edit : ℕ → Change → Edit
+edit number change = record { number = number; change = change }
 
-abbrev pub without_beside : ℕ → List ℕ
-without_beside number = shown (removed number beside)
+abbrev pub page_shown : List ℕ
+page_shown = shown (events page)
+
+-- with one change, and with two
+abbrev pub with_one : ℕ → Change → List ℕ
+with_one number change = shown (edited (edit number change ∷ []) page)
+
+abbrev pub with_two : ℕ → Change → ℕ → Change → List ℕ
+with_two number change other more =
+    shown (edited (edit number change ∷ edit other more ∷ []) page)

@@ -1,6 +1,6 @@
-pub mod Lists
 pub mod Bare
 pub mod Changes
+pub mod Events
 pub mod Examples
 pub mod View
 pub mod Inner

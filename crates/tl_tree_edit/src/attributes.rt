@@ -1,17 +1,19 @@
-//! Whether one tree is another one with the attributes of an element changed.
+//! Whether a node is another one with its tag changed.
 ghost use Rattle.std.specs.Bool.{IsTrue};
+ghost use Rattle.std.specs.List.{list_any};
 ghost use Rattle.std.specs.Option.{option_map};
-ghost use Rattle.std.specs.Prelude.{Some, length, ◌≡◌, ◌↔◌};
-ghost use Rattle.tl_tree.specs.Asked.{attribute_said, kind_of, node_at};
+ghost use Rattle.std.specs.Prelude.{Some, ◌≡◌, ◌↔◌, ◌∷◌};
+ghost use Rattle.tl_tree.specs.Asked.{attribute_said, attributes_at, kind_of, node_at};
 ghost use Rattle.tl_tree.specs.TreeView.{rows_in};
 ghost use Rattle.tl_tree.specs.declared.kind.Kind.TheVariants.{Element};
-ghost use Rattle.tl_tree_edit.specs.Bare.{bare, bare_rows};
-ghost use Rattle.tl_tree_edit.specs.Changes.{has_key, unset, with_attributes, without_key};
-ghost use Rattle.tl_tree_edit.specs.Inner.Rows.{AreOthersSame, IsNamedAlike};
+ghost use Rattle.tl_tree_edit.specs.Bare.{bare};
+ghost use Rattle.tl_tree_edit.specs.Changes.{has_key, plain, with_attributes, with_first, with_name, with_value, without_key};
+ghost use Rattle.tl_tree_edit.specs.Inner.Nodes.{IsNamedAlike};
+ghost use Rattle.tl_tree_edit.specs.Inner.Walk.{changed_by};
+ghost use Rattle.tl_tree_edit.specs.View.{change_of, changes_of};
 
-use crate::gone::Gone;
-use crate::node::{is_same_attribute, is_same_node, is_same_text};
-use crate::rows::are_moved;
+use crate::change::Change;
+use crate::node::{are_same_attributes, is_same_attribute, is_same_node, is_same_text};
 use tl_tree::{Attribute, AttributeSpace, Attributes, Kind, Tree};
 
 // Whether an attribute has this key, and no namespace.
@@ -42,22 +44,84 @@ fn are_without_key(one: Attributes<'_, '_>, mut other: Attributes<'_, '_>, key: 
     other.next().is_none()
 }
 
-// Whether there are as many rows.
-fn are_as_many(old: &Tree<'_>, new: &Tree<'_>) -> bool
-    ensures { IsTrue result ↔ length (rows_in new.now) ≡ length (rows_in old.now) }
+// Whether an attribute has this key and this value, and no namespace.
+fn is_plain(attribute: Attribute<'_>, key: &[u8], value: &[u8]) -> bool
+    ensures { IsTrue result ↔ attribute_said attribute.entry ≡ plain key.now value.now }
 {
-    new.len() == old.len()
+    match attribute.space {
+        AttributeSpace::Plain => attribute.key == key && attribute.value == value,
+        _ => false,
+    }
 }
 
-// Whether all rows but one are the same, which stands where it stood.
-fn are_others_same(old: &Tree<'_>, number: usize, new: &Tree<'_>) -> bool
-    ensures { IsTrue result ↔ AreOthersSame (rows_in old.now) (rows_in new.now) number }
+// Whether one of some attributes has a key.
+fn has_any(attributes: Attributes<'_, '_>, key: &[u8]) -> bool
+    ensures { result ≡ list_any (has_key key.now) attributes.entry }
 {
-    let count = old.len();
-    if !are_as_many(old, new) {
+    for own in attributes {
+        if has_key(own, key) {
+            return true;
+        }
+    }
+    false
+}
+
+// Whether attributes are a plain one, and others behind it.
+fn are_behind(
+    mut other: Attributes<'_, '_>,
+    key: &[u8],
+    value: &[u8],
+    one: Attributes<'_, '_>,
+) -> bool
+    ensures { IsTrue result ↔ plain key.now value.now ∷ one.entry ≡ other.entry }
+{
+    let Some(its) = other.next() else {
+        return false;
+    };
+    if !is_plain(its, key, value) {
         return false;
     }
-    are_moved(old, new, Gone::NONE, number, 0, count)
+    are_same_attributes(one, other)
+}
+
+// Whether attributes are others with another value at the first of a key.
+fn are_with_first(
+    mut one: Attributes<'_, '_>,
+    mut other: Attributes<'_, '_>,
+    key: &[u8],
+    value: &[u8],
+) -> bool
+    ensures { IsTrue result ↔ with_first key.now value.now one.entry ≡ other.entry }
+{
+    while let Some(own) = one.next() {
+        if has_key(own, key) {
+            return are_behind(other, key, value, one);
+        }
+        let Some(its) = other.next() else {
+            return false;
+        };
+        if !is_same_attribute(own, its) {
+            return false;
+        }
+    }
+    other.next().is_none()
+}
+
+// Whether the attributes of a node are those of another one with a value at a key.
+fn are_with_value(
+    old: &Tree<'_>,
+    number: usize,
+    key: &[u8],
+    value: &[u8],
+    other: Attributes<'_, '_>,
+) -> bool
+    ensures { IsTrue result
+        ↔ with_value key.now value.now (attributes_at (rows_in old.now) number) ≡ other.entry }
+{
+    if has_any(old.attributes(number), key) {
+        return are_with_first(old.attributes(number), other, key, value);
+    }
+    are_behind(other, key, value, old.attributes(number))
 }
 
 // Whether a node is an element.
@@ -69,45 +133,95 @@ fn is_element(tree: &Tree<'_>, number: usize) -> bool
 }
 
 // Whether a node is an element of the name of another one.
-fn is_named_alike(old: &Tree<'_>, new: &Tree<'_>, number: usize) -> bool
+fn is_named_alike(old: &Tree<'_>, number: usize, new: &Tree<'_>, other: usize) -> bool
     ensures { IsTrue result
-        ↔ IsNamedAlike (node_at (rows_in old.now) number) (node_at (rows_in new.now) number) }
+        ↔ IsNamedAlike (node_at (rows_in old.now) number) (node_at (rows_in new.now) other) }
 {
-    if !is_element(new, number) {
+    if !is_element(new, other) {
         return false;
     }
-    if old.namespace(number) != new.namespace(number) {
+    if old.namespace(number) != new.namespace(other) {
         return false;
     }
-    is_same_text(old.name(number), new.name(number))
+    is_same_text(old.name(number), new.name(other))
 }
 
 // Whether a node is another one without a key.
-fn has_lost(old: &Tree<'_>, new: &Tree<'_>, number: usize, key: &[u8]) -> bool
-    ensures { IsTrue result ↔ option_map bare (node_at (rows_in new.now) number)
+fn has_lost(old: &Tree<'_>, number: usize, key: &[u8], new: &Tree<'_>, other: usize) -> bool
+    ensures { IsTrue result ↔ option_map bare (node_at (rows_in new.now) other)
         ≡ option_map bare (option_map
         (with_attributes (without_key key.now))
         (node_at (rows_in old.now) number)) }
 {
     if !is_element(old, number) {
-        return is_same_node(old, number, new, number);
+        return is_same_node(old, number, new, other);
     }
-    if !is_named_alike(old, new, number) {
+    if !is_named_alike(old, number, new, other) {
         return false;
     }
-    are_without_key(old.attributes(number), new.attributes(number), key)
+    are_without_key(old.attributes(number), new.attributes(other), key)
 }
 
-/// Whether a tree is another one where an element has a key no longer.
-///
-/// Nodes are compared without where in their pages they come from. Where the number is that of no
-/// element, the trees have to be the same.
-pub fn is_unset(old: &Tree<'_>, number: usize, key: &[u8], new: &Tree<'_>) -> bool
-    ensures { IsTrue result
-        ↔ bare_rows (rows_in new.now) ≡ unset number key.now (rows_in old.now) }
+// Whether a node is another one with a value at a key.
+fn has_gained(
+    old: &Tree<'_>,
+    number: usize,
+    key: &[u8],
+    value: &[u8],
+    new: &Tree<'_>,
+    other: usize,
+) -> bool
+    ensures { IsTrue result ↔ option_map bare (node_at (rows_in new.now) other)
+        ≡ option_map bare (option_map
+        (with_attributes (with_value key.now value.now))
+        (node_at (rows_in old.now) number)) }
 {
-    if !are_others_same(old, number, new) {
+    if !is_element(old, number) {
+        return is_same_node(old, number, new, other);
+    }
+    if !is_named_alike(old, number, new, other) {
         return false;
     }
-    has_lost(old, new, number, key)
+    are_with_value(old, number, key, value, new.attributes(other))
+}
+
+// Whether a node is another one under another name.
+fn is_renamed(old: &Tree<'_>, number: usize, name: &[u8], new: &Tree<'_>, other: usize) -> bool
+    ensures { IsTrue result ↔ option_map bare (node_at (rows_in new.now) other)
+        ≡ option_map bare
+        (option_map (with_name name.now) (node_at (rows_in old.now) number)) }
+{
+    if !is_element(old, number) {
+        return is_same_node(old, number, new, other);
+    }
+    if !is_element(new, other) {
+        return false;
+    }
+    if old.namespace(number) != new.namespace(other) {
+        return false;
+    }
+    if !is_same_text(Some(name), new.name(other)) {
+        return false;
+    }
+    are_same_attributes(old.attributes(number), new.attributes(other))
+}
+
+/// Whether a node is another one, changed by this.
+pub(crate) fn is_changed(
+    old: &Tree<'_>,
+    number: usize,
+    change: Option<Change<'_, '_>>,
+    new: &Tree<'_>,
+    other: usize,
+) -> bool
+    ensures { IsTrue result ↔ option_map bare (node_at (rows_in new.now) other)
+        ≡ option_map bare
+        (option_map (changed_by (changes_of change.entry)) (node_at (rows_in old.now) number)) }
+{
+    match change {
+        Some(Change::Set(key, value)) => has_gained(old, number, key, value, new, other),
+        Some(Change::Rename(name)) => is_renamed(old, number, name, new, other),
+        Some(Change::Unset(key)) => has_lost(old, number, key, new, other),
+        _ => is_same_node(old, number, new, other),
+    }
 }

@@ -1,14 +1,35 @@
-//! Worked rows.
+//! Worked rows, of the page `<p>a<b>c</b>d</p>e`, into which `x<i></i>` is put. The `b` has the
+//! number 2; an end is shown as a stroke.
 ghost use Rattle.std.specs.Prelude.{◌≡◌, codes};
-ghost use Rattle.tl_tree_edit.specs.Examples.{without_beside, without_row};
+ghost use Rattle.tl_tree_edit.specs.Changes.{After, Append, Before, Fill, Prepend, Remove, Replace, Unset, Unwrap};
+ghost use Rattle.tl_tree_edit.specs.Examples.{page_shown, put_in, with_one, with_two};
 
-/// A row that is removed: what was behind it moves up, and texts that meet are one.
-pub fn removed_rows()
-    ensures texts_meet { without_row 2 ≡ codes "p - 2; 'ad' 0 2; 'e' - 3; " }
-    ensures inner_text { without_row 3 ≡ codes "p - 4; 'a' 0 2; b 0 3; 'd' 0 4; 'e' - 5; " }
-    ensures all_of_it { without_row 0 ≡ codes "'e' - 1; " }
-    ensures first_text { without_row 1 ≡ codes "p - 4; b 0 3; 'c' 1 3; 'd' 0 4; 'e' - 5; " }
-    ensures no_such_row { without_row 9
-        ≡ codes "p - 5; 'a' 0 2; b 0 4; 'c' 2 4; 'd' 0 5; 'e' - 6; " }
-    ensures apart { without_beside 2 ≡ codes "p - 2; 'a' 0 2; 'c' - 3; " }
+/// An element that goes, alone or with what stands in it.
+pub fn gone()
+    ensures page { page_shown ≡ codes "<p>a<b>c/d/e" }
+    ensures removed { with_one 2 Remove ≡ codes "<p>ad/e" }
+    ensures unwrapped { with_one 2 Unwrap ≡ codes "<p>acd/e" }
+    ensures outermost { with_one 0 Remove ≡ codes "e" }
+    ensures outer_unwrapped { with_one 0 Unwrap ≡ codes "a<b>c/de" }
+    ensures unset { with_one 2 (Unset (codes "id")) ≡ page_shown }
+    ensures a_text { with_one 1 Remove ≡ page_shown }
+    ensures no_such_row { with_one 9 Remove ≡ page_shown }
+{}
+
+/// What is put in.
+pub fn put()
+    ensures replaced { with_one 2 (Replace put_in) ≡ codes "<p>ax<i>/d/e" }
+    ensures filled { with_one 2 (Fill put_in) ≡ codes "<p>a<b>x<i>//d/e" }
+    ensures before { with_one 2 (Before put_in) ≡ codes "<p>ax<i>/<b>c/d/e" }
+    ensures front { with_one 2 (Prepend put_in) ≡ codes "<p>a<b>x<i>/c/d/e" }
+    ensures back { with_one 2 (Append put_in) ≡ codes "<p>a<b>cx<i>//d/e" }
+    ensures behind { with_one 2 (After put_in) ≡ codes "<p>a<b>c/x<i>/d/e" }
+    ensures last { with_one 0 (Append put_in) ≡ codes "<p>a<b>c/dx<i>//e" }
+{}
+
+/// Two edits: what stands in an element that goes is passed over.
+pub fn two()
+    ensures both { with_two 0 (Prepend put_in) 2 Unwrap ≡ codes "<p>x<i>/acd/e" }
+    ensures inner { with_two 0 (Fill put_in) 2 Remove ≡ codes "<p>x<i>//e" }
+    ensures wrong_order { with_two 2 Remove 0 Remove ≡ codes "<p>ad/e" }
 {}

@@ -1,16 +1,14 @@
-//! Edits of a page by its tree: what the tree is afterwards, and whether it is that.
+//! Edits of a page by its tree: what the tree says afterwards, and whether one says that.
 #![tactic(auto)]
 
 mod attributes;
+mod change;
+mod edited;
+mod events;
 mod examples;
-mod gone;
-mod joined;
-mod moved;
+mod meets;
 mod node;
-mod read_again;
-mod removed;
-mod rows;
+mod walk;
 
-pub use attributes::is_unset;
-pub use read_again::is_read_without;
-pub use removed::is_removed;
+pub use change::{Change, Edit};
+pub use edited::is_edited;

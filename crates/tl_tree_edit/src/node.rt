@@ -4,7 +4,7 @@ ghost use Rattle.std.specs.Option.{option_and_then, option_copied, option_map};
 ghost use Rattle.std.specs.Prelude.{◌≡◌, ◌↔◌};
 ghost use Rattle.tl_tree.specs.Asked.{attribute_said, attributes_at, doctype_of, doctype_said, namespace_of, name_of, node_at, text_of};
 ghost use Rattle.tl_tree.specs.TreeView.{rows_in};
-ghost use Rattle.tl_tree_edit.specs.Inner.Rows.{IsSameNode};
+ghost use Rattle.tl_tree_edit.specs.Inner.Nodes.{IsSameNode};
 
 use tl_tree::{Attribute, AttributeSpace, Attributes, Doctype, Tree};
 
@@ -28,7 +28,7 @@ pub(crate) fn is_same_attribute(one: Attribute<'_>, other: Attribute<'_>) -> boo
 
 // Whether attributes are the same, in the same order.
 #[tactic(auto, using(crate::proofs::Lists::rest_same, crate::proofs::Lists::firsts_differ))]
-fn are_same_attributes(one: Attributes<'_, '_>, mut other: Attributes<'_, '_>) -> bool
+pub(crate) fn are_same_attributes(one: Attributes<'_, '_>, mut other: Attributes<'_, '_>) -> bool
     ensures { IsTrue result ↔ one.entry ≡ other.entry }
 {
     for own in one {

@@ -3,7 +3,7 @@ use Rattle.std.specs.Option.{option_map}
 use Rattle.tl_tree.specs.Asked.{node_at}
 use Rattle.tl_tree.specs.TreeView.{rows_in}
 use Rattle.tl_tree_edit.proofs.ElementNodes.{changed_element, element_changed, no_element}
-use Rattle.tl_tree_edit.proofs.Seats.{confirmed, holds, refuted}
+use Rattle.tl_tree_edit.proofs.Holding.{confirmed, holds, refuted}
 use Rattle.tl_tree_edit.specs.Bare.{bare}
 use Rattle.tl_tree_edit.specs.Changes.{without_key}
 use Rattle.tl_tree_edit.proofs.attributes.has_lost.Goals as goal
@@ -19,7 +19,7 @@ returns-then-not-is_element c =
 pub returns-then-not-is_named_alike : goal.returns-then-not-is_named_alike
 returns-then-not-is_named_alike c =
     let a = node_at (rows_in c.args.old.now) c.args.number in
-    let b = node_at (rows_in c.args.new.now) c.args.number in
+    let b = node_at (rows_in c.args.new.now) c.args.other in
     let kind = holds c.is_element.result c.is_element.ensures c.if-not-is_element.false in
     refuted c.is_named_alike.result c.is_named_alike.ensures c.if-not-is_named_alike.true
     (λ e. let it = changed_element (without_key c.args.key.now) a b kind e in record { kind = it.kind; space = it.space; name = it.name })
@@ -27,7 +27,7 @@ returns-then-not-is_named_alike c =
 pub returns : goal.returns
 returns c =
     let a = node_at (rows_in c.args.old.now) c.args.number in
-    let b = node_at (rows_in c.args.new.now) c.args.number in
+    let b = node_at (rows_in c.args.new.now) c.args.other in
     let f = without_key c.args.key.now in
     let kind = holds c.is_element.result c.is_element.ensures c.if-not-is_element.false in
     let named = holds c.is_named_alike.result c.is_named_alike.ensures c.if-not-is_named_alike.false in

@@ -1,0 +1,151 @@
+//! Whether what is left of a tree begins with what another one says.
+ghost use Rattle.std.specs.Option.{option_copied, option_map};
+ghost use Rattle.std.specs.Prelude.{IfOk, List, Some, [], map, ◌∷◌, ◌≡◌};
+ghost use Rattle.tl_dom_spec.specs.Marks.{Marked};
+ghost use Rattle.tl_tree.specs.Asked.{node_at};
+ghost use Rattle.tl_tree.specs.Rows.{Node};
+ghost use Rattle.tl_tree.specs.TreeView.{rows_in};
+ghost use Rattle.tl_tree_edit.specs.Bare.{bare};
+ghost use Rattle.tl_tree_edit.specs.Changes.{changed_node, put, where_it_stays};
+ghost use Rattle.tl_tree_edit.specs.Events.{begins, ends, events, says};
+ghost use Rattle.tl_tree_edit.specs.Events.{Event as Said};
+ghost use Rattle.tl_tree_edit.specs.Inner.Walk.{Follows, IsNext, Meets, changed_by, left, put_in};
+ghost use Rattle.tl_tree_edit.specs.View.{change_of, changes_of};
+
+use crate::attributes::is_changed;
+use crate::change::Change;
+use crate::events::{Event, Events};
+use std::alloc::{AllocError, Global};
+use tl_tree::Tree;
+
+impl Events<'_, '_> {
+    // Whether the node of a row comes next, changed by this.
+    pub(crate) fn meets_node(
+        &mut self,
+        tree: &Tree<'_>,
+        number: usize,
+        change: Option<Change<'_, '_>>,
+    ) -> Result<bool, AllocError>
+        ensures met { (node : Node) → node_at (rows_in tree.now) number ≡ Some node
+            → IfOk result (Meets
+            (begins (bare (changed_by (changes_of change.entry) node)) ∷ []) self.old self.new) }
+        ensures tree { self.new.tree.now ≡ self.old.tree.now }
+    {
+        let own = self.tree;
+        let Some(Event::Begins(other)) = self.next()? else {
+            return Ok(false);
+        };
+        Ok(is_changed(tree, number, change, own, other))
+    }
+
+    // Whether a byte of a text comes next.
+    fn meets_byte(&mut self, byte: u8) -> Result<bool, AllocError>
+        ensures met { IfOk result
+            (Meets (says byte ∷ []) self.old self.new) }
+        ensures tree { self.new.tree.now ≡ self.old.tree.now }
+    {
+        let Some(Event::Says(own)) = self.next()? else {
+            return Ok(false);
+        };
+        Ok(own == byte)
+    }
+
+    // Whether the innermost row ends next.
+    pub(crate) fn meets_end(&mut self) -> Result<bool, AllocError>
+        ensures met { IfOk result (Meets (ends ∷ []) self.old self.new) }
+        ensures tree { self.new.tree.now ≡ self.old.tree.now }
+    {
+        let Some(Event::Ends) = self.next()? else {
+            return Ok(false);
+        };
+        Ok(true)
+    }
+
+    // Whether the node of a row comes next, changed by this, where it stays.
+    pub(crate) fn meets_own(
+        &mut self,
+        tree: &Tree<'_>,
+        number: usize,
+        change: Change<'_, '_>,
+    ) -> Result<bool, AllocError>
+        ensures met { (node : Node) → node_at (rows_in tree.now) number ≡ Some node
+            → IfOk result (Meets (where_it_stays (change_of change.entry)
+            (begins (bare (changed_node (change_of change.entry) node)) ∷ [])) self.old self.new) }
+        ensures tree { self.new.tree.now ≡ self.old.tree.now }
+    {
+        if !change.stays() {
+            return Ok(true);
+        }
+        self.meets_node(tree, number, Some(change))
+    }
+
+    // Whether the innermost row ends next, where it stays.
+    pub(crate) fn meets_own_end(&mut self, change: Change<'_, '_>) -> Result<bool, AllocError>
+        ensures met { IfOk result
+            (Meets (where_it_stays (change_of change.entry) (ends ∷ [])) self.old self.new) }
+        ensures tree { self.new.tree.now ≡ self.old.tree.now }
+    {
+        if !change.stays() {
+            return Ok(true);
+        }
+        self.meets_end()
+    }
+
+    // Whether a text comes next.
+    pub(crate) fn meets_text(&mut self, text: &[u8]) -> Result<bool, AllocError>
+        ensures met { IfOk result
+            (Meets (map says text.now) self.old self.new) }
+        ensures tree { self.new.tree.now ≡ self.old.tree.now }
+    {
+        for byte in text {
+            if !self.meets_byte(*byte)? {
+                return Ok(false);
+            }
+        }
+        Ok(true)
+    }
+
+    // Whether what a tree says next comes next.
+    fn meets(&mut self, trees: &Tree<'_>, event: Event) -> Result<bool, AllocError>
+        ensures met { (said more : List Said) → IsNext (rows_in trees.now) said more (Some event)
+            → IfOk result (Follows said more (left self.old) (left self.new)) }
+        ensures tree { self.new.tree.now ≡ self.old.tree.now }
+    {
+        match event {
+            Event::Begins(number) => self.meets_node(trees, number, None),
+            Event::Says(byte) => self.meets_byte(byte),
+            Event::Ends => self.meets_end(),
+        }
+    }
+
+    // Whether all that a tree says comes next.
+    fn meets_tree(&mut self, alloc: Global, trees: &Tree<'_>) -> Result<bool, AllocError>
+        ensures met { IfOk result
+            (Meets (events (rows_in trees.now)) self.old self.new) }
+        ensures tree { self.new.tree.now ≡ self.old.tree.now }
+    {
+        let mut events = Events::new(alloc, trees);
+        while let Some(event) = events.next()? {
+            if !self.meets(trees, event)? {
+                return Ok(false);
+            }
+        }
+        Ok(true)
+    }
+
+    // The same, if there is a tree.
+    pub(crate) fn meets_trees(
+        &mut self,
+        alloc: Global,
+        trees: Option<&Tree<'_>>,
+    ) -> Result<bool, AllocError>
+        ensures met { IfOk result
+            (Meets (put (put_in (option_copied trees.entry))) self.old self.new) }
+        ensures tree { self.new.tree.now ≡ self.old.tree.now }
+    {
+        match trees {
+            Some(trees) => self.meets_tree(alloc, trees),
+            None => Ok(true),
+        }
+    }
+}
