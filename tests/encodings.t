@@ -1,13 +1,13 @@
-Which encoding a page is in, and its text. A page whose bytes are no UTF-8 and that says no other encoding is refused at the first
-such byte; one in windows-1252 (and latin1, which is the same) has `é` for the byte `\351`.
+Which encoding a page is in, and its text. With `--strict` a page whose bytes are no UTF-8 and that says no other encoding is refused at
+the first such byte; one in windows-1252 (and latin1, which is the same) has `é` for the byte `\351`.
 
   $ printf '' | tl text
   $ printf 'café<meta charset=latin1>' | tl text
   café (no-eol)
-  $ printf '\357\273\277\351<meta charset=latin1>' | tl text
+  $ printf '\357\273\277\351<meta charset=latin1>' | tl text --strict
   tl: -: no UTF-8 at byte 3; --encoding says what a page is in (err)
   [2]
-  $ printf '\351' | tl text
+  $ printf '\351' | tl text --strict
   tl: -: no UTF-8 at byte 0; --encoding says what a page is in (err)
   [2]
   $ printf '\351<meta charset=latin1>' | tl text
@@ -18,10 +18,10 @@ such byte; one in windows-1252 (and latin1, which is the same) has `é` for the 
   é (no-eol)
   $ printf '\351<meta charset=us-ascii />' | tl text
   é (no-eol)
-  $ printf '\351<meta charset=us-ascii/>' | tl text
+  $ printf '\351<meta charset=us-ascii/>' | tl text --strict
   tl: -: no UTF-8 at byte 0; --encoding says what a page is in (err)
   [2]
-  $ printf '\351<meta charset=utf-8>' | tl text
+  $ printf '\351<meta charset=utf-8>' | tl text --strict
   tl: -: no UTF-8 at byte 0; --encoding says what a page is in (err)
   [2]
   $ printf '\351<meta name=x><meta charset=latin1>' | tl text
@@ -30,29 +30,29 @@ such byte; one in windows-1252 (and latin1, which is the same) has `é` for the 
   é (no-eol)
   $ printf '\351<meta content="the charset is" charset=latin1>' | tl text
   é (no-eol)
-  $ printf '\351<p charset=latin1>' | tl text
+  $ printf '\351<p charset=latin1>' | tl text --strict
   tl: -: no UTF-8 at byte 0; --encoding says what a page is in (err)
   [2]
-  $ printf '\351<meta name=x>charset=latin1' | tl text
+  $ printf '\351<meta name=x>charset=latin1' | tl text --strict
   tl: -: no UTF-8 at byte 0; --encoding says what a page is in (err)
   [2]
-  $ printf '\351<meta charset' | tl text
+  $ printf '\351<meta charset' | tl text --strict
   tl: -: no UTF-8 at byte 0; --encoding says what a page is in (err)
   [2]
-  $ printf '\351<meta charset=latin1' | tl text
+  $ printf '\351<meta charset=latin1' | tl text --strict
   tl: -: no UTF-8 at byte 0; --encoding says what a page is in (err)
   [2]
   $ printf '\351<meta charset=latin1 <p>' | tl text
   é (no-eol)
-  $ printf '\351<meta charset=utf-16>' | tl text
+  $ printf '\351<meta charset=utf-16>' | tl text --strict
   tl: -: no UTF-8 at byte 0; --encoding says what a page is in (err)
   [2]
   $ printf '\351<meta charset=x-user-defined>' | tl text
   é (no-eol)
-  $ printf '\351<meta charset="">' | tl text
+  $ printf '\351<meta charset="">' | tl text --strict
   tl: -: no UTF-8 at byte 0; --encoding says what a page is in (err)
   [2]
-  $ printf '\351<meta charset=>' | tl text
+  $ printf '\351<meta charset=>' | tl text --strict
   tl: -: no UTF-8 at byte 0; --encoding says what a page is in (err)
   [2]
   $ printf '\351<meta charset=nope><meta charset=latin1>' | tl text
@@ -69,7 +69,7 @@ such byte; one in windows-1252 (and latin1, which is the same) has `é` for the 
   é (no-eol)
   $ printf '\351<meta charset=latin1 charset=koi8-r>' | tl text
   é (no-eol)
-  $ printf '\351<meta charset=nope charset=latin1>' | tl text
+  $ printf '\351<meta charset=nope charset=latin1>' | tl text --strict
   tl: -: no UTF-8 at byte 0; --encoding says what a page is in (err)
   [2]
   $ printf '\351<metadata charset=koi8-r><meta charset=latin1>' | tl text
@@ -84,7 +84,7 @@ such byte; one in windows-1252 (and latin1, which is the same) has `é` for the 
   é (no-eol)
   $ printf '\351<meta http-equiv=content-type content="charset charset = \047latin1\047 ">' | tl text
   é (no-eol)
-  $ printf '\351<meta http-equiv=content-type content="charset=\047latin1">' | tl text
+  $ printf '\351<meta http-equiv=content-type content="charset=\047latin1">' | tl text --strict
   tl: -: no UTF-8 at byte 0; --encoding says what a page is in (err)
   [2]
   $ printf '\351<meta http-equiv=content-type content=charset=latin1;x>' | tl text
@@ -93,7 +93,7 @@ such byte; one in windows-1252 (and latin1, which is the same) has `é` for the 
   é (no-eol)
   $ printf '\351<!--><meta charset=latin1>-->' | tl text
   é--> (no-eol)
-  $ printf '\351<!-- <meta charset=latin1>' | tl text
+  $ printf '\351<!-- <meta charset=latin1>' | tl text --strict
   tl: -: no UTF-8 at byte 0; --encoding says what a page is in (err)
   [2]
   $ printf '\351<a title="<meta charset=koi8-r>"><meta charset=latin1>' | tl text
@@ -104,12 +104,12 @@ such byte; one in windows-1252 (and latin1, which is the same) has `é` for the 
   é< (no-eol)
   $ printf '<?xml version="1.0" encoding="iso-8859-1"?><p>\351' | tl text
   é (no-eol)
-  $ printf '<?xml version=\0471.0\047 encoding=\047utf-8\047?><p>\351' | tl text
+  $ printf '<?xml version=\0471.0\047 encoding=\047utf-8\047?><p>\351' | tl text --strict
   tl: -: no UTF-8 at byte 41; --encoding says what a page is in (err)
   [2]
   $ printf '<?xml version="1.0" encoding="latin1"?><p>café' | tl text
   café (no-eol)
-  $ printf '\357\273\277<?xml version="1.0" encoding="latin1"?><p>\351' | tl text
+  $ printf '\357\273\277<?xml version="1.0" encoding="latin1"?><p>\351' | tl text --strict
   tl: -: no UTF-8 at byte 45; --encoding says what a page is in (err)
   [2]
   $ printf '<?xml encoding\000\013 = \t\047latin1\047?>\351' | tl text
@@ -122,66 +122,66 @@ such byte; one in windows-1252 (and latin1, which is the same) has `é` for the 
   é (no-eol)
   $ printf '<?xml coding=\047koi8-r\047 encoding=\047latin1\047?>\351' | tl text
   é (no-eol)
-  $ printf '<?xml version=\0471.0\047 encoding=\047utf-16\047?>\351' | tl text
+  $ printf '<?xml version=\0471.0\047 encoding=\047utf-16\047?>\351' | tl text --strict
   tl: -: no UTF-8 at byte 39; --encoding says what a page is in (err)
   [2]
-  $ printf '<?xml version=\0471.0\047 encoding=\047nope\047?>\351' | tl text
+  $ printf '<?xml version=\0471.0\047 encoding=\047nope\047?>\351' | tl text --strict
   tl: -: no UTF-8 at byte 37; --encoding says what a page is in (err)
   [2]
-  $ printf '<?xml version=\0471.0\047 encoding=\047\047?>\351' | tl text
+  $ printf '<?xml version=\0471.0\047 encoding=\047\047?>\351' | tl text --strict
   tl: -: no UTF-8 at byte 33; --encoding says what a page is in (err)
   [2]
-  $ printf '<?xml version=\0471.0\047 encoding=\047 latin1\047?>\351' | tl text
+  $ printf '<?xml version=\0471.0\047 encoding=\047 latin1\047?>\351' | tl text --strict
   tl: -: no UTF-8 at byte 40; --encoding says what a page is in (err)
   [2]
-  $ printf '<?xml version=\0471.0\047 encoding=\047latin1\n\047?>\351' | tl text
+  $ printf '<?xml version=\0471.0\047 encoding=\047latin1\n\047?>\351' | tl text --strict
   tl: -: no UTF-8 at byte 40; --encoding says what a page is in (err)
   [2]
-  $ printf '<?xml version=\0471.0\047 encoding=\047latin1\000\047?>\351' | tl text
+  $ printf '<?xml version=\0471.0\047 encoding=\047latin1\000\047?>\351' | tl text --strict
   tl: -: no UTF-8 at byte 40; --encoding says what a page is in (err)
   [2]
-  $ printf '<?xml version=\0471.0\047 encoding=latin1?>\351' | tl text
+  $ printf '<?xml version=\0471.0\047 encoding=latin1?>\351' | tl text --strict
   tl: -: no UTF-8 at byte 37; --encoding says what a page is in (err)
   [2]
-  $ printf '<?xml version=\0471.0\047 encoding=\047latin1"?>\351' | tl text
+  $ printf '<?xml version=\0471.0\047 encoding=\047latin1"?>\351' | tl text --strict
   tl: -: no UTF-8 at byte 39; --encoding says what a page is in (err)
   [2]
-  $ printf '<?xml version=\0471.0\047 encoding \047latin1\047?>\351' | tl text
+  $ printf '<?xml version=\0471.0\047 encoding \047latin1\047?>\351' | tl text --strict
   tl: -: no UTF-8 at byte 39; --encoding says what a page is in (err)
   [2]
-  $ printf '<?xml version=\0471.0\047 encoding\240=\047latin1\047?>\351' | tl text
+  $ printf '<?xml version=\0471.0\047 encoding\240=\047latin1\047?>\351' | tl text --strict
   tl: -: no UTF-8 at byte 28; --encoding says what a page is in (err)
   [2]
-  $ printf '<?xml version=\0471.0\047 encoding: encoding=\047latin1\047?>\351' | tl text
+  $ printf '<?xml version=\0471.0\047 encoding: encoding=\047latin1\047?>\351' | tl text --strict
   tl: -: no UTF-8 at byte 49; --encoding says what a page is in (err)
   [2]
-  $ printf '<?xml version=\0471.0\047 Encoding=\047latin1\047?>\351' | tl text
+  $ printf '<?xml version=\0471.0\047 Encoding=\047latin1\047?>\351' | tl text --strict
   tl: -: no UTF-8 at byte 39; --encoding says what a page is in (err)
   [2]
-  $ printf '<?XML version=\0471.0\047 encoding=\047latin1\047?>\351' | tl text
+  $ printf '<?XML version=\0471.0\047 encoding=\047latin1\047?>\351' | tl text --strict
   tl: -: no UTF-8 at byte 39; --encoding says what a page is in (err)
   [2]
-  $ printf '<? xml version=\0471.0\047 encoding=\047latin1\047?>\351' | tl text
+  $ printf '<? xml version=\0471.0\047 encoding=\047latin1\047?>\351' | tl text --strict
   tl: -: no UTF-8 at byte 40; --encoding says what a page is in (err)
   [2]
-  $ printf '\n<?xml version=\0471.0\047 encoding=\047latin1\047?>\351' | tl text
+  $ printf '\n<?xml version=\0471.0\047 encoding=\047latin1\047?>\351' | tl text --strict
   tl: -: no UTF-8 at byte 40; --encoding says what a page is in (err)
   [2]
-  $ printf '<?xml version=\0471.0\047 encoding=\047latin1\047?\351' | tl text
+  $ printf '<?xml version=\0471.0\047 encoding=\047latin1\047?\351' | tl text --strict
   tl: -: no UTF-8 at byte 38; --encoding says what a page is in (err)
   [2]
-  $ printf '<?xml version=\0471.0\047 encoding\351>' | tl text
+  $ printf '<?xml version=\0471.0\047 encoding\351>' | tl text --strict
   tl: -: no UTF-8 at byte 28; --encoding says what a page is in (err)
   [2]
-  $ printf '<?xml \351>encoding' | tl text
+  $ printf '<?xml \351>encoding' | tl text --strict
   tl: -: no UTF-8 at byte 6; --encoding says what a page is in (err)
   [2]
-  $ printf '<?xml \351>encoding=' | tl text
+  $ printf '<?xml \351>encoding=' | tl text --strict
   tl: -: no UTF-8 at byte 6; --encoding says what a page is in (err)
   [2]
   $ printf '<?xml version=\0471.0\047 encoding=\047koi8-r\047?><meta charset=latin1>\351' | tl text
   é (no-eol)
-  $ printf '<?xml version=\0471.0\047 encoding=\047koi8-r\047?><meta charset=utf-8>\351' | tl text
+  $ printf '<?xml version=\0471.0\047 encoding=\047koi8-r\047?><meta charset=utf-8>\351' | tl text --strict
   tl: -: no UTF-8 at byte 59; --encoding says what a page is in (err)
   [2]
   $ printf '<?xml version=\0471.0\047 encoding=\047latin1\047?><meta charset=nope>\351' | tl text
@@ -196,7 +196,7 @@ such byte; one in windows-1252 (and latin1, which is the same) has `é` for the 
   $ printf '\357\273\277<\000?\000x\000' | tl text
   <?x (no-eol)
 
-Pages in encodings that are not read, by their labels, and in UTF-16, by their mark or their declaration.
+Pages in encodings that are not read, by their labels; others, and UTF-16, by its mark or its declaration.
 
   $ printf '\351<meta charset=Shift_JIS>' | tl text
   tl: -: the encoding `Shift_JIS` is not read (err)
@@ -205,53 +205,39 @@ Pages in encodings that are not read, by their labels, and in UTF-16, by their m
   tl: -: the encoding `gbk` is not read (err)
   [2]
   $ printf '\351<meta charset=koi8-r><meta charset=latin1>' | tl text
-  tl: -: the encoding `koi8-r` is not read (err)
-  [2]
+  И (no-eol)
   $ printf '\351<meta charset=nope><meta charset=big5>' | tl text
   tl: -: the encoding `big5` is not read (err)
   [2]
   $ printf '\360<meta charset=iso-8859-9>' | tl text
-  tl: -: the encoding `iso-8859-9` is not read (err)
-  [2]
+  ğ (no-eol)
   $ printf '\244<meta charset=iso_8859-15>' | tl text
-  tl: -: the encoding `iso_8859-15` is not read (err)
-  [2]
+  € (no-eol)
   $ printf '\351<meta charset=koi8-u><meta charset=latin1>' | tl text
-  tl: -: the encoding `koi8-u` is not read (err)
-  [2]
+  И (no-eol)
   $ printf '\351<meta charset=euc-kr><meta charset=latin1>' | tl text
   tl: -: the encoding `euc-kr` is not read (err)
   [2]
-  $ printf '\351<meta charset=utf-16be><meta charset=latin1>' | tl text
+  $ printf '\351<meta charset=utf-16be><meta charset=latin1>' | tl text --strict
   tl: -: no UTF-8 at byte 0; --encoding says what a page is in (err)
   [2]
   $ printf '\351<meta http-equiv=content-type content="text/html; charset=iso-8859-2">' | tl text
-  tl: -: the encoding `iso-8859-2` is not read (err)
-  [2]
+  é (no-eol)
   $ printf '<?xml version=\0471.0\047 encoding=\047Shift_JIS\047?>\203' | tl text
   tl: -: the encoding `Shift_JIS` is not read (err)
   [2]
-  $ printf '<?xml version=\0471.0\047 encoding=\047x-user-defined\047?>\351' | tl text
-  tl: -: the encoding `x-user-defined` is not read (err)
-  [2]
+  $ printf '<?xml version=\0471.0\047 encoding=\047x-user-defined\047?>\351' | tl text | od -An -tx1
+   ef 9f a9
   $ printf '<?xml version=\0471.0\047 encoding=\047latin1\047?><meta charset=gbk>\351' | tl text
   tl: -: the encoding `gbk` is not read (err)
   [2]
   $ printf '\376\377\000<' | tl text
-  tl: -: UTF-16 is not read (err)
-  [2]
+  < (no-eol)
   $ printf '\377\376<\000' | tl text
-  tl: -: UTF-16 is not read (err)
-  [2]
+  < (no-eol)
   $ printf '<\000?\000x\000m\000l\000 \000' | tl text
-  tl: -: UTF-16 is not read (err)
-  [2]
   $ printf '\000<\000?\000x\000m\000l\000 ' | tl text
-  tl: -: UTF-16 is not read (err)
-  [2]
   $ printf '<\000?\000x\000\351<meta charset=latin1>' | tl text
-  tl: -: UTF-16 is not read (err)
-  [2]
 
 The labels are those of the standard.
 
@@ -303,17 +289,23 @@ The labels are those of the standard.
   cafÃ© (no-eol)
   $ printf 'caf\303\251' | tl text --encoding x-cp1252
   cafÃ© (no-eol)
-  $ printf 'caf\303\251' | tl text --encoding x-user-defined
-  tl: no encoding that is read: x-user-defined (err)
-  [2]
+  $ printf 'caf\303\251' | tl text --encoding x-user-defined | od -An -tx1
+   63 61 66 ef 9f 83 ef 9e a9
   $ printf 'caf\303\251' | tl text --encoding iso-8859-15
-  tl: no encoding that is read: iso-8859-15 (err)
-  [2]
+  cafÃ© (no-eol)
   $ printf 'caf\303\251' | tl text --encoding utf-16
-  tl: no encoding that is read: utf-16 (err)
-  [2]
+  慣썦� (no-eol)
+  $ printf 'caf\303\251' | tl text --encoding utf-16be
+  捡曃� (no-eol)
   $ printf 'caf\303\251' | tl text --encoding latin2
-  tl: no encoding that is read: latin2 (err)
+  cafĂŠ (no-eol)
+  $ printf 'caf\303\251' | tl text --encoding hz-gb-2312
+  � (no-eol)
+  $ printf 'caf\303\251' | tl text --encoding gbk
+  tl: no encoding that is read: gbk (err)
+  [2]
+  $ printf 'caf\303\251' | tl text --encoding Shift_JIS
+  tl: no encoding that is read: Shift_JIS (err)
   [2]
   $ printf 'caf\303\251' | tl text --encoding ''
   tl: no encoding that is read:\x20 (esc) (err)
@@ -334,6 +326,198 @@ Bytes, and the text that they stand for.
   €‚ƒ„…†‡ˆ‰Š‹ŒŽ‘’“”•–—˜™š›œžŸ (no-eol)
   $ printf '\000\177\201\215\217\220\235\240\377' | tl text --encoding windows-1252
   \x7f\x81\x8d\x8f\x90\x9d\xa0ÿ (esc) (no-eol)
-  $ printf 'caf\351' | tl text --encoding utf-8
+  $ printf 'caf\351' | tl text --strict --encoding utf-8
   tl: -: no UTF-8 at byte 3 (err)
   [2]
+  $ printf 'caf\351' | tl text --encoding utf-8
+  caf� (no-eol)
+
+Each single-byte encoding, by the words of its letters from \340 on; `\241` and `\245` too, where an index may have none.
+
+  $ printf '\241\245\340\341\342\343\344\345\346\347\350\351\352\353\354\355\356\357' | tl text --encoding IBM866
+  берстуфхцчшщъыьэюя (no-eol)
+  $ printf '\241\245\340\341\342\343\344\345\346\347\350\351\352\353\354\355\356\357' | tl text --encoding ISO-8859-2
+  ĄĽŕáâăäĺćçčéęëěíîď (no-eol)
+  $ printf '\241\245\340\341\342\343\344\345\346\347\350\351\352\353\354\355\356\357' | tl text --encoding ISO-8859-3
+  Ħ�àáâ�äċĉçèéêëìíîï (no-eol)
+  $ printf '\241\245\340\341\342\343\344\345\346\347\350\351\352\353\354\355\356\357' | tl text --encoding ISO-8859-4
+  ĄĨāáâãäåæįčéęëėíîī (no-eol)
+  $ printf '\241\245\340\341\342\343\344\345\346\347\350\351\352\353\354\355\356\357' | tl text --encoding ISO-8859-5
+  ЁЅрстуфхцчшщъыьэюя (no-eol)
+  $ printf '\241\245\340\341\342\343\344\345\346\347\350\351\352\353\354\355\356\357' | tl text --encoding ISO-8859-6
+  ��ـفقكلمنهوىيًٌٍَُ (no-eol)
+  $ printf '\241\245\340\341\342\343\344\345\346\347\350\351\352\353\354\355\356\357' | tl text --encoding ISO-8859-7
+  ‘₯ΰαβγδεζηθικλμνξο (no-eol)
+  $ printf '\241\245\340\341\342\343\344\345\346\347\350\351\352\353\354\355\356\357' | tl text --encoding ISO-8859-8
+  �¥אבגדהוזחטיךכלםמן (no-eol)
+  $ printf '\241\245\340\341\342\343\344\345\346\347\350\351\352\353\354\355\356\357' | tl text --encoding ISO-8859-8-I
+  �¥אבגדהוזחטיךכלםמן (no-eol)
+  $ printf '\241\245\340\341\342\343\344\345\346\347\350\351\352\353\354\355\356\357' | tl text --encoding ISO-8859-10
+  ĄĨāáâãäåæįčéęëėíîï (no-eol)
+  $ printf '\241\245\340\341\342\343\344\345\346\347\350\351\352\353\354\355\356\357' | tl text --encoding ISO-8859-13
+  ”„ąįāćäåęēčéźėģķīļ (no-eol)
+  $ printf '\241\245\340\341\342\343\344\345\346\347\350\351\352\353\354\355\356\357' | tl text --encoding ISO-8859-14
+  Ḃċàáâãäåæçèéêëìíîï (no-eol)
+  $ printf '\241\245\340\341\342\343\344\345\346\347\350\351\352\353\354\355\356\357' | tl text --encoding ISO-8859-15
+  ¡¥àáâãäåæçèéêëìíîï (no-eol)
+  $ printf '\241\245\340\341\342\343\344\345\346\347\350\351\352\353\354\355\356\357' | tl text --encoding ISO-8859-16
+  Ą„àáâăäćæçèéêëìíîï (no-eol)
+  $ printf '\241\245\340\341\342\343\344\345\346\347\350\351\352\353\354\355\356\357' | tl text --encoding KOI8-R
+  ║╔ЮАБЦДЕФГХИЙКЛМНО (no-eol)
+  $ printf '\241\245\340\341\342\343\344\345\346\347\350\351\352\353\354\355\356\357' | tl text --encoding KOI8-U
+  ║╔ЮАБЦДЕФГХИЙКЛМНО (no-eol)
+  $ printf '\241\245\340\341\342\343\344\345\346\347\350\351\352\353\354\355\356\357' | tl text --encoding macintosh
+  °•‡·‚„‰ÂÊÁËÈÍÎÏÌÓÔ (no-eol)
+  $ printf '\241\245\340\341\342\343\344\345\346\347\350\351\352\353\354\355\356\357' | tl text --encoding windows-874
+  กฅเแโใไๅๆ็่้๊๋์ํ๎๏ (no-eol)
+  $ printf '\241\245\340\341\342\343\344\345\346\347\350\351\352\353\354\355\356\357' | tl text --encoding windows-1250
+  ˇĄŕáâăäĺćçčéęëěíîď (no-eol)
+  $ printf '\241\245\340\341\342\343\344\345\346\347\350\351\352\353\354\355\356\357' | tl text --encoding windows-1251
+  ЎҐабвгдежзийклмноп (no-eol)
+  $ printf '\241\245\340\341\342\343\344\345\346\347\350\351\352\353\354\355\356\357' | tl text --encoding windows-1252
+  ¡¥àáâãäåæçèéêëìíîï (no-eol)
+  $ printf '\241\245\340\341\342\343\344\345\346\347\350\351\352\353\354\355\356\357' | tl text --encoding windows-1253
+  ΅¥ΰαβγδεζηθικλμνξο (no-eol)
+  $ printf '\241\245\340\341\342\343\344\345\346\347\350\351\352\353\354\355\356\357' | tl text --encoding windows-1254
+  ¡¥àáâãäåæçèéêëìíîï (no-eol)
+  $ printf '\241\245\340\341\342\343\344\345\346\347\350\351\352\353\354\355\356\357' | tl text --encoding windows-1255
+  ¡¥אבגדהוזחטיךכלםמן (no-eol)
+  $ printf '\241\245\340\341\342\343\344\345\346\347\350\351\352\353\354\355\356\357' | tl text --encoding windows-1256
+  ،¥àلâمنهوçèéêëىيîï (no-eol)
+  $ printf '\241\245\340\341\342\343\344\345\346\347\350\351\352\353\354\355\356\357' | tl text --encoding windows-1257
+  ��ąįāćäåęēčéźėģķīļ (no-eol)
+  $ printf '\241\245\340\341\342\343\344\345\346\347\350\351\352\353\354\355\356\357' | tl text --encoding windows-1258
+  ¡¥àáâăäåæçèéêë́íîï (no-eol)
+  $ printf '\241\245\340\341\342\343\344\345\346\347\350\351\352\353\354\355\356\357' | tl text --encoding x-mac-cyrillic
+  °•абвгдежзийклмноп (no-eol)
+
+A byte-order mark counts before `--encoding` and before what a page says.
+
+  $ printf '\357\273\277caf\303\251' | tl text --encoding latin1
+  café (no-eol)
+  $ printf '\376\377\000c\000a\000f\000\351' | tl text --encoding utf-8
+  café (no-eol)
+  $ printf '\377\376c\000a\000f\000\351\000' | tl text --encoding utf-16be
+  café (no-eol)
+  $ printf '\376\377\000<\000m\000e\000t\000a\000 \000c\000h\000a\000r\000s\000e\000t\000=\000l\0001\000>\000\351' | tl text
+  é (no-eol)
+  $ printf '\357\273\277<meta charset=latin1>\303\251\351' | tl text
+  é� (no-eol)
+
+Bytes that are wrong are read as U+FFFD: of UTF-8 each longest run that begins a character, and each other byte.
+
+  $ printf 'a\377b' | tl text
+  a�b (no-eol)
+  $ printf 'a\360\237\230b' | tl text
+  a�b (no-eol)
+  $ printf 'a\300\200b' | tl text
+  a��b (no-eol)
+  $ printf 'a\355\240\200b' | tl text
+  a���b (no-eol)
+  $ printf 'a\342\202' | tl text
+  a� (no-eol)
+  $ printf '<p class=\377>a\377' | tl select p
+  <p class="�">a�</p>
+  $ printf 'a\252b' | tl text --encoding windows-1253
+  a�b (no-eol)
+  $ printf '\376\377\330\075\336\000\330\075\000a\336\000\000b\330\075' | tl text
+  😀�a�b� (no-eol)
+  $ printf '\376\377\000a\000' | tl text
+  a� (no-eol)
+  $ printf '\377' >wrong.html
+  $ tl select body wrong.html
+  <body>�</body>
+  $ tl text -w wrong.html
+  �
+  $ tl print wrong.html
+  <html><head></head><body>�</body></html> (no-eol)
+  $ tl outline wrong.html
+  html
+    head
+    body
+      "�"
+  $ tl sanitize wrong.html
+  � (no-eol)
+  $ printf '<a href=\377><table><tr><td>\376' >wrong.html
+  $ tl links wrong.html
+  �
+  $ tl table wrong.html
+  �
+
+With `--strict` a page with such bytes is refused, and what is wrong said by its place.
+
+  $ tl links --strict wrong.html
+  tl: wrong.html: no UTF-8 at byte 8; --encoding says what a page is in (err)
+  [2]
+  $ tl table --strict wrong.html
+  tl: wrong.html: no UTF-8 at byte 8; --encoding says what a page is in (err)
+  [2]
+  $ tl outline --strict --encoding utf-8 wrong.html
+  tl: wrong.html: no UTF-8 at byte 8 (err)
+  [2]
+  $ printf 'a\252b' | tl text --strict --encoding windows-1253
+  tl: -: no character at byte 1 (err)
+  [2]
+  $ printf '<meta charset=windows-1253>a\252b' | tl text --strict
+  tl: -: no character at byte 28; --encoding says what a page is in (err)
+  [2]
+  $ printf '\376\377\000a\330\075\000a' | tl text --strict
+  tl: -: no character at byte 4; --encoding says what a page is in (err)
+  [2]
+  $ printf '\376\377\000a\336\000\330\075' | tl text --strict
+  tl: -: no character at byte 4; --encoding says what a page is in (err)
+  [2]
+  $ printf '\376\377\000a\330\075' | tl text --strict
+  tl: -: no character at byte 4; --encoding says what a page is in (err)
+  [2]
+  $ printf '\376\377\000a\000' | tl text --strict
+  tl: -: no character at byte 4; --encoding says what a page is in (err)
+  [2]
+  $ printf '\376\377\330\075\336\000\377\375' | tl text --strict
+  😀� (no-eol)
+  $ printf 'caf\351' | tl text --strict --encoding x-user-defined | od -An -tx1
+   63 61 66 ef 9f a9
+  $ printf 'a' | tl text --strict --encoding replacement
+  tl: -: no character at byte 0 (err)
+  [2]
+  $ printf '' | tl text --strict --encoding replacement
+  $ printf 'caf\303\251' | tl text --strict
+  café (no-eol)
+
+Edits are of pages in UTF-8 alone.
+
+  $ printf '<p>\377' | tl set p k v
+  tl: -: no UTF-8 at byte 3 (err)
+  [2]
+  $ printf '\376\377\000<\000p' | tl set p k v
+  tl: -: no UTF-8 at byte 0 (err)
+  [2]
+  $ printf '<p>a' | tl set --strict p k v
+  error: unexpected argument '--strict' found (err)
+  ...
+  [2]
+
+Pages that people have: each says its encoding otherwise, or none.
+
+  $ printf '<html><head><meta charset=koi8-r><title>\360\322\311\327\305\324</title></head><body><p class=x>\360\322\311\327\305\324</p></body></html>' | tl select -t p
+  Привет
+  $ printf '<html><head><meta charset=iso-8859-2><title>\243\363d\274</title></head><body><p class=x>\243\363d\274</p></body></html>' | tl select -t p
+  Łódź
+  $ printf '<html><head><meta charset=iso-8859-15><title>Gr\366\337e \2445</title></head><body><p class=x>Gr\366\337e \2445</p></body></html>' | tl select -t p
+  Größe €5
+  $ printf '<html><head><meta http-equiv="Content-Type" content="text/html; charset=windows-1252"><title>\223Quote\224 \226 \2005</title></head><body><p class=x>\223Quote\224 \226 \2005</p></body></html>' | tl select -t p
+  “Quote” – €5
+  $ printf '<html><head><meta charset=iso-8859-1><title>Gr\366\337e caf\351 - x</title></head><body><p class=x>Gr\366\337e caf\351 - x</p></body></html>' | tl select -t p
+  Größe café - x
+  $ printf '\376\377\000<\000h\000t\000m\000l\000>\000<\000h\000e\000a\000d\000>\000<\000t\000i\000t\000l\000e\000>\000G\000r\000\366\000\337\000e\000 e\345g,\000<\000/\000t\000i\000t\000l\000e\000>\000<\000/\000h\000e\000a\000d\000>\000<\000b\000o\000d\000y\000>\000<\000p\000 \000c\000l\000a\000s\000s\000=\000x\000>\000G\000r\000\366\000\337\000e\000 e\345g,\000<\000/\000p\000>\000<\000/\000b\000o\000d\000y\000>\000<\000/\000h\000t\000m\000l\000>' | tl select -t p
+  Größe 日本
+  $ printf '\377\376<\000h\000t\000m\000l\000>\000<\000h\000e\000a\000d\000>\000<\000t\000i\000t\000l\000e\000>\000G\000r\000\366\000\337\000e\000 \000\345e,g<\000/\000t\000i\000t\000l\000e\000>\000<\000/\000h\000e\000a\000d\000>\000<\000b\000o\000d\000y\000>\000<\000p\000 \000c\000l\000a\000s\000s\000=\000x\000>\000G\000r\000\366\000\337\000e\000 \000\345e,g<\000/\000p\000>\000<\000/\000b\000o\000d\000y\000>\000<\000/\000h\000t\000m\000l\000>\000' | tl select -t p
+  Größe 日本
+  $ printf '<html><head><meta charset=iso-8859-1><title>Gr\303\266\303\237e \346\227\245\346\234\254</title></head><body><p class=x>Gr\303\266\303\237e \346\227\245\346\234\254</p></body></html>' | tl select -t p
+  Größe 日本
+  $ printf '<html><head><meta charset=utf-8><title>Gr\303\266\303\237e</title></head><body><p class=x>Gr\303\266\303\237e bad\377</p></body></html>' | tl select -t p
+  Größe bad�
+  $ printf '\357\273\277<html><head><title>Gr\303\266\303\237e \346\227\245\346\234\254</title></head><body><p class=x>Gr\303\266\303\237e \346\227\245\346\234\254</p></body></html>' | tl select -t p
+  Größe 日本
+  $ printf '<html><head><title>Gr\366\337e caf\351</title></head><body><p class=x>Gr\366\337e caf\351</p></body></html>' | tl select -t p
+  Gr��e caf�

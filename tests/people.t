@@ -273,9 +273,11 @@ Encodings.
   $ printf '<!doctype html><meta charset="ISO-8859-1"><p>caf\351 \200' >meta.html
   $ printf '<meta http-equiv=Content-Type content="text/html; charset=windows-1252"><p>caf\351' >http.html
   $ printf '\357\273\277<p>caf\303\251' >mark.html
-  $ tl text latin1.html
+  $ tl text --strict latin1.html
   tl: latin1.html: no UTF-8 at byte 6; --encoding says what a page is in (err)
   [2]
+  $ tl text latin1.html
+  caf� � (no-eol)
   $ tl text --encoding latin1 latin1.html
   café € (no-eol)
   $ tl text --encoding=Windows-1252 latin1.html
@@ -292,31 +294,29 @@ Encodings.
   é
   $ printf '<a href=\351><table><tr><td>\200' | tl table --encoding latin1
   €
-  $ tl text --encoding utf-8 latin1.html
+  $ tl text --strict --encoding utf-8 latin1.html
   tl: latin1.html: no UTF-8 at byte 6 (err)
   [2]
   $ tl text meta.html
   café € (no-eol)
-  $ tl text --encoding utf8 meta.html
+  $ tl text --strict --encoding utf8 meta.html
   tl: meta.html: no UTF-8 at byte 48 (err)
   [2]
   $ tl text http.html
   café (no-eol)
   $ tl text mark.html
   café (no-eol)
-  $ tl select -t p meta.html latin1.html mark.html
+  $ tl select --strict -t p meta.html latin1.html mark.html
   meta.html:café €
   mark.html:café
   tl: latin1.html: no UTF-8 at byte 6; --encoding says what a page is in (err)
   [2]
   $ printf '<p>caf\303\251<meta charset=latin1>' | tl text
   café (no-eol)
-  $ printf '\376\377\0<\0p' | tl text
-  tl: -: UTF-16 is not read (err)
-  [2]
-  $ printf '\377\376<\0p\0' | tl text
-  tl: -: UTF-16 is not read (err)
-  [2]
+  $ printf '\376\377\0<\0p\0>\0\351' | tl text
+  é (no-eol)
+  $ printf '\377\376<\0p\0>\0\351\0' | tl text
+  é (no-eol)
   $ printf '<meta charset=Shift_JIS><p>\203' | tl text
   tl: -: the encoding `Shift_JIS` is not read (err)
   [2]
@@ -324,37 +324,37 @@ Encodings.
   café (no-eol)
   $ printf '<meta name=description content="charset=koi8-r"><meta charset=latin1><p>caf\351' | tl text
   café (no-eol)
-  $ printf '<meta charset=""><p>\351' | tl text
+  $ printf '<meta charset=""><p>\351' | tl text --strict
   tl: -: no UTF-8 at byte 20; --encoding says what a page is in (err)
   [2]
   $ printf '<meta charset=" gbk "><p>\203' | tl text
   tl: -: the encoding `gbk` is not read (err)
   [2]
-  $ printf '<meta charset=utf-8><p>\203' | tl text
+  $ printf '<meta charset=utf-8><p>\203' | tl text --strict
   tl: -: no UTF-8 at byte 23; --encoding says what a page is in (err)
   [2]
-  $ (head -c 1024 /dev/zero | tr '\0' a; printf '<meta charset=latin1>\351') | tl text | tail -c 3
+  $ (head -c 1024 /dev/zero | tr '\0' a; printf '<meta charset=latin1>\351') | tl text --strict | tail -c 3
   tl: -: no UTF-8 at byte 1045; --encoding says what a page is in (err)
   $ printf '<?xml version="1.0" encoding="iso-8859-1"?><p>caf\351' | tl text
   café (no-eol)
   $ printf '<?xml version="1.0" encoding="koi8-r"?><meta charset=latin1><p>caf\351' | tl text
   café (no-eol)
   $ printf '<?xml version="1.0" encoding="koi8-r"?><p>\351' | tl text
-  tl: -: the encoding `koi8-r` is not read (err)
+  И (no-eol)
+  $ printf '<?xml version="1.0" encoding="gbk"?><p>\351' | tl text
+  tl: -: the encoding `gbk` is not read (err)
   [2]
-  $ printf '<?xml version="1.0" encoding=latin1?><p>\351' | tl text
+  $ printf '<?xml version="1.0" encoding=latin1?><p>\351' | tl text --strict
   tl: -: no UTF-8 at byte 40; --encoding says what a page is in (err)
   [2]
-  $ (printf '<?xml '; head -c 1024 /dev/zero | tr '\0' a; printf ' encoding="latin1"?>\351') | tl text | tail -c 3
+  $ (printf '<?xml '; head -c 1024 /dev/zero | tr '\0' a; printf ' encoding="latin1"?>\351') | tl text --strict | tail -c 3
   tl: -: no UTF-8 at byte 1050; --encoding says what a page is in (err)
-  $ printf '<\0?\0x\0m\0l\0' | tl text
-  tl: -: UTF-16 is not read (err)
-  [2]
-  $ printf '\0<\0?\0x\0m\0l' | tl text
-  tl: -: UTF-16 is not read (err)
-  [2]
-  $ tl text --encoding utf-16 meta.html
-  tl: no encoding that is read: utf-16 (err)
+  $ printf '<\0?\0x\0m\0l\0>\0\351\0' | tl text
+  é (no-eol)
+  $ printf '\0<\0?\0x\0m\0l\0>\0\351' | tl text
+  é (no-eol)
+  $ tl text --encoding gbk meta.html
+  tl: no encoding that is read: gbk (err)
   [2]
   $ tl print meta.html
   <!DOCTYPE html><html><head><meta charset="ISO-8859-1"></head><body><p>café €</p></body></html> (no-eol)

@@ -102,7 +102,7 @@ Each command, and each option of `select`.
   $ printf '<p id=i title=t><i>a</i><b>c' | tl sanitize --tags p,i --keys title
   <p title="t"><i>a</i>c</p> (no-eol)
   $ printf '<p id=u-i><a href="ftp:x" id=i></a><a href="/y">' | tl sanitize --keys=id,href --link-keys=href --links=/ --prefix=u-
-  <p id="u-i"><a></a><a href="/y"></a></p> (no-eol)
+  <p id="u-i"><a id="u-i"></a><a href="/y"></a></p> (no-eol)
   $ tl print
   <html><head></head><body></body></html> (no-eol)
   $ tl outline
@@ -464,10 +464,10 @@ Nothing was found, or something is refused or not understood.
   $ tl select --json i <page
   []
   [1]
-  $ printf '\377' | tl print
+  $ printf '\377' | tl print --strict
   tl: -: no UTF-8 at byte 0; --encoding says what a page is in (err)
   [2]
-  $ printf '\377' | tl select p
+  $ printf '\377' | tl select --strict p
   tl: -: no UTF-8 at byte 0; --encoding says what a page is in (err)
   [2]
   $ tl
@@ -737,6 +737,12 @@ Their lists.
   --links https://,http://,mailto:,/,#
   --relative-links
   --prefix user-
+  $ tl sanitize --policy --comments --tags +img,-b,i --links=-http://,tel:,mailto: --link-keys +src
+  --tags a,blockquote,br,code,del,em,i,li,ol,p,pre,q,s,strong,sub,sup,u,ul,img
+  --keys cite,dir,href,lang,title
+  --link-keys cite,href,src
+  --links https://,tel:,mailto:
+  --prefix user-
   $ tl sanitize --policy --documents --tags p --keys title --prefix z-
   --tags p
   --keys title
@@ -857,10 +863,10 @@ Words that no policy may list: the first one is named, and no page is made safe.
 
 Pages that can't be had are passed over, and the greatest status counts.
 
-  $ printf '\377' | tl sanitize
+  $ printf '\377' | tl sanitize --strict
   tl: -: no UTF-8 at byte 0; --encoding says what a page is in (err)
   [2]
-  $ tl sanitize --no-name a.html bytes.html b.html
+  $ tl sanitize --strict --no-name a.html bytes.html b.html
   <p>a</p><b>b</b> (no-eol)
   tl: bytes.html: no UTF-8 at byte 0; --encoding says what a page is in (err)
   [2]
@@ -868,11 +874,11 @@ Pages that can't be had are passed over, and the greatest status counts.
   <p>a</p><b>b</b> (no-eol)
   tl: none: No such file or directory (os error 2) (err)
   [4]
-  $ tl sanitize none bytes.html
+  $ tl sanitize --strict none bytes.html
   tl: none: No such file or directory (os error 2) (err)
   tl: bytes.html: no UTF-8 at byte 0; --encoding says what a page is in (err)
   [4]
-  $ tl sanitize bytes.html none
+  $ tl sanitize --strict bytes.html none
   tl: bytes.html: no UTF-8 at byte 0; --encoding says what a page is in (err)
   tl: none: No such file or directory (os error 2) (err)
   [4]
@@ -939,6 +945,7 @@ Help names each command and each option, and words the lists.
   --null
   --number
   --quiet
+  --strict
   --text
   --tree
   $ tl sanitize --help >help && grep -oE -e '--[a-z-]+' help | sort -u
@@ -954,6 +961,7 @@ Help names each command and each option, and words the lists.
   --policy
   --prefix
   --relative-links
+  --strict
   --tags
   $ for command in set unset rename remove unwrap replace fill prepend append before after; do tl $command --help; done | grep -oE -e '--[a-z-]+' | sort -u
   --backup

@@ -45,6 +45,8 @@ pub struct Pages<'w> {
     pub writing: Writing,
     /// What they are in, if it is said.
     pub encoding: Option<Encoding>,
+    /// Whether one with bytes that are wrong is refused.
+    pub is_strict: bool,
     pub terminal: Terminal,
 }
 
@@ -339,6 +341,7 @@ fn pages_of<'w>(
         has_names: !matches.get_flag("no-name"),
         writing: writing_of(matches),
         encoding: encoding(matches)?,
+        is_strict: matches.get_flag("strict"),
         terminal,
     })
 }

@@ -15,7 +15,9 @@ use std::fs::File;
 use std::io::{ErrorKind, Read, Write};
 use std::{fmt, io};
 use tl_answers::Output;
-use tl_encoding::{DecodeError, Encoding, EncodingError, decode, encoding_of};
+use tl_encoding::{
+    DecodeError, Encoding, EncodingError, decode, decode_strict, encoding_marked, encoding_of,
+};
 use tl_page::{Failure, text};
 
 /// The files where none are said.
@@ -132,11 +134,28 @@ fn page_output(
     }
 }
 
-// What a page is in: what was said, or what it says.
+// What a page is in: what its byte-order mark says, what was said, or what it says.
 fn encoding_in<'p>(pages: &Pages<'_>, page: &'p [u8]) -> Result<Encoding, EncodingError<'p>> {
-    match pages.encoding {
+    let Some(said) = pages.encoding else {
+        return encoding_of(page);
+    };
+    match encoding_marked(page) {
         Some(encoding) => Ok(encoding),
-        None => encoding_of(page),
+        None => Ok(said),
+    }
+}
+
+// The text of a page.
+fn text_of(
+    rt: &HostRuntime,
+    pages: &Pages<'_>,
+    page: Vec<u8>,
+    encoding: Encoding,
+) -> Result<String, DecodeError> {
+    if pages.is_strict {
+        decode_strict(rt.alloc(), page, encoding)
+    } else {
+        Ok(decode(rt.alloc(), page, encoding)?)
     }
 }
 
@@ -250,7 +269,7 @@ fn process_bytes(
             return Ok(not_understood(rt, file, &error));
         }
     };
-    let text = match decode(rt.alloc(), page, encoding) {
+    let text = match text_of(rt, pages, page, encoding) {
         Ok(text) => text,
         Err(DecodeError::OutOfMemory) => return Err(Failure::OutOfMemory),
         Err(error) => {

@@ -119,6 +119,16 @@ fn is_misread(page: &[u8], patched: &Patched) -> bool {
         && encoding_said(page) != Ok(Encoding::Utf8)
 }
 
+// Why a page is not changed that is UTF-8 only as far as its bytes go.
+#[derive(Clone, Copy)]
+struct DeclaresUtf16;
+
+impl fmt::Display for DeclaresUtf16 {
+    fn fmt<W: fmt::Write>(&self, f: &mut fmt::Formatter<W>) -> fmt::Result {
+        f.write_str("UTF-16 is not changed")
+    }
+}
+
 // Why a page is not changed by what is no ASCII.
 #[derive(Clone, Copy)]
 struct OtherEncoding;
@@ -139,8 +149,8 @@ fn patch_page(rt: &HostRuntime, patching: &Patching<'_>, file: &str) -> Result<A
         Ok(page) => page,
         Err(error) => return Ok(not_understood(rt, file, &error)),
     };
-    if let Err(error) = encoding_of(page.as_bytes()) {
-        return Ok(not_understood(rt, file, &error));
+    if encoding_of(page.as_bytes()) != Ok(Encoding::Utf8) {
+        return Ok(not_understood(rt, file, &DeclaresUtf16));
     }
     let edit = &patching.edit;
     match edited_page(rt.alloc(), edit, &patching.selector, page.as_bytes()) {

@@ -20,11 +20,19 @@ pub const NO_NAME: Flag = Flag {
     excludes: &[],
 };
 
-pub const ENCODING: Flag = Flag {
+const ENCODING: Flag = Flag {
     name: "encoding",
     short: None,
     value: Some("LABEL"),
-    help: "What the pages are in: utf-8, latin1 or windows-1252",
+    help: "What the pages are in, as latin1, koi8-r or utf-16le",
+    excludes: &[],
+};
+
+const STRICT: Flag = Flag {
+    name: "strict",
+    short: None,
+    value: None,
+    help: "Refuse pages with bytes that stand for no character",
     excludes: &[],
 };
 
@@ -301,8 +309,11 @@ pub static SELECTION: [Flag; 2] = [FIRST, MAX_COUNT];
 // How texts are written, and which.
 pub static TEXT_FLAGS: [Flag; 3] = [WHITESPACE, INSIDE, COMMENTS];
 
-// What a policy lets stand beside its lists, and what pages are in.
-pub static POLICIES: [Flag; 4] = [RELATIVE_LINKS, NOFOLLOW_LINKS, POLICY, ENCODING];
+// What a policy lets stand beside its lists.
+pub static POLICIES: [Flag; 3] = [RELATIVE_LINKS, NOFOLLOW_LINKS, POLICY];
+
+// How bytes are read.
+pub static DECODING: [Flag; 2] = [ENCODING, STRICT];
 
 impl Flag {
     // It as an argument that can stand beside each other one.

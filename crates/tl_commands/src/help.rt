@@ -11,8 +11,9 @@ Examples:
 Pages are read into the tree that browsers build of them: with html, head, body
 and tbody put in, end tags that may be left out, character references, and what
 stands wrongly moved; set and its like read the tags that the page itself has.
-Without --encoding a page is in what its byte-order mark says, else UTF-8 if it
-can be, else what its <meta charset> says. What is written is UTF-8.
+A page is in what its byte-order mark says, else in what --encoding says, else
+UTF-8 if it can be, else what its <meta charset> says. Bytes that stand for no
+character are read as U+FFFD, but with --strict. What is written is UTF-8.
 
 It ends with 0: all is done; 1: nothing is found, of select, links, table, text
 --in and the commands that change where a selector holds; 2: words, a selector

@@ -1,7 +1,7 @@
 //! The commands.
 use crate::element::ElementVerb;
 use crate::flag::{
-    BASES, ENCODING, Flag, LEFT_OUT, LISTS, NO_NAME, NODE_FLAGS, NODE_NUMBERS, POLICIES, PRETTY,
+    BASES, DECODING, Flag, LEFT_OUT, LISTS, NO_NAME, NODE_FLAGS, NODE_NUMBERS, POLICIES, PRETTY,
     SEARCH, SELECTION, TABLE_NUMBER, TARGETS, TEXT_FLAGS, TREE,
 };
 use crate::help::{
@@ -146,7 +146,7 @@ impl Verb {
 
     // It over files that may say what they are in.
     fn reading_command<'w>(self, alloc: Global) -> Result<Command<'w>, AllocError> {
-        self.plain_command(alloc)?.arg(ENCODING.argument(alloc)?)
+        with_flags(alloc, self.plain_command(alloc)?, &DECODING)
     }
 
     // It with all its words.
@@ -183,7 +183,7 @@ impl Verb {
 fn select<'w>(alloc: Global, command: Command<'w>) -> Result<Command<'w>, AllocError> {
     let command = with_words(alloc, command, &NODES)?;
     let command = with_flags(alloc, command, &SELECTION)?;
-    let command = command.arg(ENCODING.argument(alloc)?)?;
+    let command = with_flags(alloc, command, &DECODING)?;
     let command = with_flags(alloc, command, &SEARCH)?;
     let command = with_flags(alloc, command, &NODE_FLAGS)?;
 
@@ -224,7 +224,8 @@ fn sanitize<'w>(alloc: Global, command: Command<'w>) -> Result<Command<'w>, Allo
     let command = with_flags(alloc, command, &BASES)?;
     let command = command.group(one_of(alloc, "base", &BASES)?)?;
     let command = with_flags(alloc, command, &LISTS)?;
-    with_flags(alloc, command, &POLICIES)
+    let command = with_flags(alloc, command, &POLICIES)?;
+    with_flags(alloc, command, &DECODING)
 }
 
 /// The program of a version.

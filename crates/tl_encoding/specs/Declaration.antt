@@ -1,18 +1,21 @@
 -- The label in a page's XML declaration, as the HTML standard gets it where its prescan finds none
 -- ("get an XML encoding"), and the declarations in UTF-16 that the prescan looks for first.
-use Rattle.std.specs.Prelude.{ℕ, Bool, ◌||◌, ◌&&◌, List, [], ◌∷◌, Option, None, codes, drop, not, if◌then◌else◌}
+use Rattle.std.specs.Prelude.{ℕ, Bool, ◌&&◌, List, [], ◌∷◌, Option, Some, None, codes, drop, not, if◌then◌else◌}
 use Rattle.std.specs.List.{list_any}
 use Rattle.std.specs.Option.{option_and_then}
 use Rattle.tl_encoding.specs.Charset.{head, is_empty, label_known}
 use Rattle.tl_encoding.specs.Content.{until}
 use Rattle.tl_encoding.specs.Runs.{after, after_equals, begins, from_word, is_of, is_quote}
+use Rattle.tl_encoding.specs.declared.encoding.ByteOrder.{ByteOrder}
+use Rattle.tl_encoding.specs.declared.encoding.ByteOrder.TheVariants.{BigEndian, LittleEndian}
 use Rattle.tl_encoding.specs.declared.run.ByteClass.TheVariants.{Blank, Except}
 
--- `<?x` in UTF-16, of either order of bytes: the standard looks at no more of it
-abbrev pub is_utf_16_declared : List ℕ → Bool
-is_utf_16_declared page =
-    begins (0x3C ∷ 0 ∷ 0x3F ∷ 0 ∷ 0x78 ∷ 0 ∷ []) page
-    || begins (0 ∷ 0x3C ∷ 0 ∷ 0x3F ∷ 0 ∷ 0x78 ∷ []) page
+-- `<?x` in UTF-16, and its order of bytes: the standard looks at no more of it
+abbrev pub utf_16_declared : List ℕ → Option ByteOrder
+utf_16_declared page =
+    if begins (0x3C ∷ 0 ∷ 0x3F ∷ 0 ∷ 0x78 ∷ 0 ∷ []) page then Some LittleEndian
+    else if begins (0 ∷ 0x3C ∷ 0 ∷ 0x3F ∷ 0 ∷ 0x78 ∷ []) page then Some BigEndian
+    else None
 
 -- a declaration stands in front, and a `>` after it
 abbrev pub is_declaration : List ℕ → Bool

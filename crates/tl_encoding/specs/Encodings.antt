@@ -1,45 +1,53 @@
--- Which encoding a page is in, and the text that its bytes stand for.
-use Rattle.std.specs.Prelude.{ℕ, Bool, ◌||◌, List, [], ◌∷◌, Option, Some, None, Result, Ok, Err, encode_utf8, flat_map, if◌then◌else◌}
+-- Which encoding a page is in.
+use Rattle.std.specs.Prelude.{ℕ, List, [], ◌∷◌, Option, Some, None, Result, Ok, Err, option_map, if◌then◌else◌}
 use Rattle.std.specs.Str.{is_utf8}
-use Rattle.tl_html_spec.specs.References.{windows_1252}
 use Rattle.tl_encoding.specs.Charset.{charset_of}
-use Rattle.tl_encoding.specs.Declaration.{is_utf_16_declared, label_declared}
+use Rattle.tl_encoding.specs.Declaration.{label_declared, utf_16_declared}
+use Rattle.tl_encoding.specs.Labels.{encoding_named, trimmed}
 use Rattle.tl_encoding.specs.Runs.{begins}
-use Rattle.tl_encoding.specs.Labels.{names_user_defined, names_utf_16, names_utf_8, names_windows_1252, trimmed}
+use Rattle.tl_encoding.specs.declared.encoding.ByteOrder.{ByteOrder}
+use Rattle.tl_encoding.specs.declared.encoding.ByteOrder.TheVariants.{BigEndian, LittleEndian}
 use Rattle.tl_encoding.specs.declared.encoding.Encoding.{Encoding}
-use Rattle.tl_encoding.specs.declared.encoding.Encoding.TheVariants.{Utf8, Windows1252}
+use Rattle.tl_encoding.specs.declared.encoding.Encoding.TheVariants.{Utf8, Utf16, SingleByte, UserDefined, Replacement}
 use Rattle.tl_encoding.specs.declared.encoding.EncodingError.{EncodingError}
-use Rattle.tl_encoding.specs.declared.encoding.EncodingError.TheVariants.{Utf16, Unknown}
-
--- the encoding of a label that has no white space around it
-abbrev pub encoding_named : List ℕ → Option Encoding
-encoding_named label =
-    if names_utf_8 label then Some Utf8
-    else if names_windows_1252 label then Some Windows1252
-    else None
+use Rattle.tl_encoding.specs.declared.encoding.EncodingError.TheVariants.{Unknown}
+use Rattle.tl_encoding.specs.declared.single_byte.SingleByte.TheVariants.{Windows1252}
 
 -- the encoding of a label
 abbrev pub encoding_labelled : List ℕ → Option Encoding
 encoding_labelled label = encoding_named (trimmed label)
 
--- the encoding that an XML declaration means: a page that can be read so is in no UTF-16
-abbrev pub encoding_declared : List ℕ → Option Encoding
-encoding_declared label = if names_utf_16 label then Some Utf8 else encoding_named label
+-- a page that can be read as ASCII is in no UTF-16: what says so means UTF-8
+abbrev pub no_utf_16 : Encoding → Encoding
+no_utf_16 Utf8 = Utf8
+no_utf_16 (Utf16 order) = Utf8
+no_utf_16 (SingleByte name) = SingleByte name
+no_utf_16 UserDefined = UserDefined
+no_utf_16 Replacement = Replacement
 
--- the encoding that a tag `meta` means: there `x-user-defined` is windows-1252
+-- in a tag `meta` x-user-defined means windows-1252
+abbrev pub no_user_defined : Encoding → Encoding
+no_user_defined Utf8 = Utf8
+no_user_defined (Utf16 order) = Utf16 order
+no_user_defined (SingleByte name) = SingleByte name
+no_user_defined UserDefined = SingleByte Windows1252
+no_user_defined Replacement = Replacement
+
+-- the encoding that an XML declaration means
+abbrev pub encoding_declared : List ℕ → Option Encoding
+encoding_declared label = option_map no_utf_16 (encoding_named label)
+
+-- the encoding that a tag `meta` means
 abbrev pub encoding_meant : List ℕ → Option Encoding
-encoding_meant label =
-    if names_user_defined label then Some Windows1252 else encoding_declared label
+encoding_meant label = option_map no_user_defined (encoding_declared label)
 
 -- what there is to say of a page: its encoding, or why it is in none that is read
 pub data Answer : Type 0 where
   known : Encoding → Answer
-  utf_16 : Answer
   unknown : List ℕ → Answer
 
 abbrev pub answer_of : Result Encoding EncodingError → Answer
 answer_of (Ok encoding) = known encoding
-answer_of (Err Utf16) = utf_16
 answer_of (Err (Unknown label)) = unknown label.now
 
 -- the encoding of a label, or that there is none
@@ -61,19 +69,29 @@ labelled (Some label) page = known_or (encoding_meant label) label
 abbrev pub encoding_said : List ℕ → Answer
 encoding_said page = labelled (charset_of page) page
 
-abbrev pub has_utf_16_mark : List ℕ → Bool
-has_utf_16_mark page = begins (0xFE ∷ 0xFF ∷ []) page || begins (0xFF ∷ 0xFE ∷ []) page
+-- the encoding of a byte-order mark in front ("BOM sniff")
+abbrev pub encoding_marked : List ℕ → Option Encoding
+encoding_marked page =
+    if begins (0xEF ∷ 0xBB ∷ 0xBF ∷ []) page then Some Utf8
+    else if begins (0xFE ∷ 0xFF ∷ []) page then Some (Utf16 BigEndian)
+    else if begins (0xFF ∷ 0xFE ∷ []) page then Some (Utf16 LittleEndian)
+    else None
 
--- a byte-order mark and a declaration in UTF-16 count first: a page in UTF-16 whose characters are
--- ASCII is UTF-8 too. Then it counts that a page is UTF-8, then what it says
+-- where neither a mark nor a declaration in UTF-16 stands in front: it counts that a page is UTF-8,
+-- then what it says
+abbrev pub encoding_unmarked : List ℕ → Answer
+encoding_unmarked page = if is_utf8 page then known Utf8 else encoding_said page
+
+-- a declaration in UTF-16 counts before that: a page in UTF-16 whose characters are ASCII is UTF-8
+-- too
+abbrev pub in_utf_16_or : Option ByteOrder → List ℕ → Answer
+in_utf_16_or None page = encoding_unmarked page
+in_utf_16_or (Some order) page = known (Utf16 order)
+
+-- a byte-order mark counts first
+abbrev pub marked_or : Option Encoding → List ℕ → Answer
+marked_or None page = in_utf_16_or (utf_16_declared page) page
+marked_or (Some encoding) page = known encoding
+
 abbrev pub encoding_in : List ℕ → Answer
-encoding_in page =
-    if has_utf_16_mark page || is_utf_16_declared page then utf_16
-    else if begins (0xEF ∷ 0xBB ∷ 0xBF ∷ []) page then known Utf8
-    else if is_utf8 page then known Utf8
-    else encoding_said page
-
--- the text of bytes in an encoding
-abbrev pub decoded : Encoding → List ℕ → List ℕ
-decoded Utf8 bytes = bytes
-decoded Windows1252 bytes = flat_map (λ b. encode_utf8 (windows_1252 b)) bytes
+encoding_in page = marked_or (encoding_marked page) page

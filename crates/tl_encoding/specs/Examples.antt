@@ -4,6 +4,13 @@ use Rattle.std.specs.Prelude.{◌≡◌, Some, None, codes}
 use Rattle.tl_encoding.specs.Charset.{charset_of}
 use Rattle.tl_encoding.specs.Declaration.{label_declared}
 use Rattle.tl_encoding.specs.Encodings.{Answer, encoding_said}
+use Rattle.tl_encoding.specs.declared.encoding.Encoding.{Encoding}
+use Rattle.tl_encoding.specs.declared.encoding.Encoding.TheVariants.{SingleByte}
+use Rattle.tl_encoding.specs.declared.single_byte.SingleByte.TheVariants.{Windows1252}
+
+-- what pages mean that say Latin-1
+abbrev pub latin_1 : Encoding
+latin_1 = SingleByte Windows1252
 
 -- the label that a page says
 abbrev pub Says : String → String → Type 0

@@ -2,7 +2,12 @@ pub mod Attributes
 pub mod Charset
 pub mod Content
 pub mod Declaration
+pub mod Decoders
 pub mod Encodings
 pub mod Examples
+pub mod Indexes
 pub mod Labels
 pub mod Runs
+pub mod SingleByte
+pub mod Utf16
+pub mod Utf8

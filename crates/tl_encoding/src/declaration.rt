@@ -3,17 +3,24 @@ ghost use Rattle.std.specs.Prelude.{◌≡◌, option_map};
 ghost use Rattle.std.specs.List.{list_any};
 ghost use Rattle.tl_encoding.specs.Runs.{is_of};
 ghost use Rattle.tl_encoding.specs.declared.run.ByteClass.TheVariants.{Blank};
-ghost use Rattle.tl_encoding.specs.Declaration.{after_encoding, is_declaration, is_utf_16_declared, label_declared, quoted, unbroken, xml_label};
+ghost use Rattle.tl_encoding.specs.Declaration.{after_encoding, is_declaration, label_declared, quoted, unbroken, utf_16_declared, xml_label};
 
 use crate::charset::{head, label_known};
 use crate::content::until;
+use crate::encoding::ByteOrder;
 use crate::run::{ByteClass, after, after_equals, from_word, is_quote, without};
 
-/// Whether a page begins with a declaration in UTF-16, of either order of bytes.
-pub(crate) fn is_utf_16_declared(page: &[u8]) -> bool
-    ensures { result ≡ is_utf_16_declared page.now }
+/// The order of bytes of a declaration in UTF-16 that a page begins with.
+pub(crate) fn utf_16_declared(page: &[u8]) -> Option<ByteOrder>
+    ensures { result ≡ utf_16_declared page.now }
 {
-    page.starts_with(b"<\0?\0x\0") || page.starts_with(b"\0<\0?\0x")
+    if page.starts_with(b"<\0?\0x\0") {
+        Some(ByteOrder::LittleEndian)
+    } else if page.starts_with(b"\0<\0?\0x") {
+        Some(ByteOrder::BigEndian)
+    } else {
+        None
+    }
 }
 
 // Whether a declaration stands in front, and a `>` after it.

@@ -1,76 +1,83 @@
 //! Encodings, and which one a page is in.
-ghost use Rattle.std.specs.Prelude.{◌≡◌, ◌∷◌, []};
+ghost use Rattle.std.specs.Prelude.{◌≡◌};
 ghost use Rattle.std.specs.Str.{is_utf8};
 ghost use Rattle.tl_encoding.specs.Declaration.{label_declared};
-ghost use Rattle.tl_encoding.specs.Encodings.{answer_of, declared, encoding_declared, encoding_in, encoding_labelled, encoding_meant, encoding_named, encoding_said, has_utf_16_mark, known_or};
-ghost use Rattle.tl_encoding.specs.Runs.{begins};
+ghost use Rattle.tl_encoding.specs.Encodings.{answer_of, declared, encoding_declared, encoding_in, encoding_labelled, encoding_marked, encoding_meant, encoding_said, known_or, no_user_defined, no_utf_16};
 
 use crate::charset::charset_of;
-use crate::declaration::{is_utf_16_declared, label_declared};
-use crate::labels::{names_user_defined, names_utf_8, names_utf_16, names_windows_1252, trimmed};
+use crate::declaration::{label_declared, utf_16_declared};
+use crate::labels::{encoding_named, trimmed};
+use crate::single_byte::SingleByte;
 use bstr::ByteSlice;
 use thiserror::Error;
+
+/// Which of the two bytes of a code unit comes first.
+#[derive(Clone, Copy, PartialEq, Eq, Debug)]
+pub enum ByteOrder {
+    BigEndian,
+    LittleEndian,
+}
 
 /// How bytes stand for characters.
 #[derive(Clone, Copy, PartialEq, Eq, Debug)]
 pub enum Encoding {
     Utf8,
-    /// Also what pages mean that say ISO-8859-1, Latin-1 or US-ASCII.
-    Windows1252,
+    Utf16(ByteOrder),
+    SingleByte(SingleByte),
+    /// The standard's x-user-defined.
+    UserDefined,
+    /// Of pages whose bytes nothing should read: any stand for one U+FFFD.
+    Replacement,
 }
 
 /// Why a page is in no encoding that is read.
 #[derive(Clone, Copy, PartialEq, Eq, Debug, Error)]
 pub enum EncodingError<'p> {
-    /// It begins with the byte-order mark of UTF-16, or with an XML declaration in UTF-16.
-    #[error("UTF-16 is not read")]
-    Utf16,
     /// It says another one, by this label.
     #[error("the encoding `{label}` is not read", label = .0.as_bstr())]
     Unknown(&'p [u8]),
 }
 
 impl Encoding {
-    // The encoding of a label that has no white space around it.
-    fn named(label: &[u8]) -> Option<Encoding>
-        ensures { result ≡ encoding_named label.now }
-    {
-        if names_utf_8(label) {
-            Some(Encoding::Utf8)
-        } else if names_windows_1252(label) {
-            Some(Encoding::Windows1252)
-        } else {
-            None
-        }
-    }
-
     /// The encoding of a label of the encoding standard, in any case.
     pub fn from_label(label: &[u8]) -> Option<Encoding>
         ensures { result ≡ encoding_labelled label.now }
     {
-        Encoding::named(trimmed(label))
+        encoding_named(trimmed(label))
     }
 
-    // The encoding that an XML declaration means: a page that can be read so is in no UTF-16.
+    // A page whose bytes can be read as ASCII is in no UTF-16: what says so means UTF-8.
+    fn no_utf_16(self) -> Encoding
+        ensures { result ≡ no_utf_16 self }
+    {
+        match self {
+            Encoding::Utf16(_) => Encoding::Utf8,
+            other => other,
+        }
+    }
+
+    // In a tag `meta` x-user-defined means windows-1252.
+    fn no_user_defined(self) -> Encoding
+        ensures { result ≡ no_user_defined self }
+    {
+        match self {
+            Encoding::UserDefined => Encoding::SingleByte(SingleByte::Windows1252),
+            other => other,
+        }
+    }
+
+    // The encoding that an XML declaration means.
     fn declared(label: &[u8]) -> Option<Encoding>
         ensures { result ≡ encoding_declared label.now }
     {
-        if names_utf_16(label) {
-            Some(Encoding::Utf8)
-        } else {
-            Encoding::named(label)
-        }
+        Some(encoding_named(label)?.no_utf_16())
     }
 
-    // The encoding that a tag `meta` means: there `x-user-defined` is windows-1252.
+    // The encoding that a tag `meta` means.
     fn meant(label: &[u8]) -> Option<Encoding>
         ensures { result ≡ encoding_meant label.now }
     {
-        if names_user_defined(label) {
-            Some(Encoding::Windows1252)
-        } else {
-            Encoding::declared(label)
-        }
+        Some(Encoding::declared(label)?.no_user_defined())
     }
 }
 
@@ -105,18 +112,20 @@ pub fn encoding_said(page: &[u8]) -> Result<Encoding, EncodingError<'_>>
     }
 }
 
-// Whether a page begins with the byte-order mark of UTF-16.
-fn has_utf_16_mark(page: &[u8]) -> bool
-    ensures { result ≡ has_utf_16_mark page.now }
+/// The encoding of the byte-order mark that a page begins with. It counts before all that is said
+/// of a page.
+pub fn encoding_marked(page: &[u8]) -> Option<Encoding>
+    ensures { result ≡ encoding_marked page.now }
 {
-    page.starts_with(b"\xFE\xFF") || page.starts_with(b"\xFF\xFE")
-}
-
-// Whether a page begins with that of UTF-8.
-fn has_utf_8_mark(page: &[u8]) -> bool
-    ensures { result ≡ begins (0xEF ∷ 0xBB ∷ 0xBF ∷ []) page.now }
-{
-    page.starts_with(b"\xEF\xBB\xBF")
+    if page.starts_with(b"\xEF\xBB\xBF") {
+        Some(Encoding::Utf8)
+    } else if page.starts_with(b"\xFE\xFF") {
+        Some(Encoding::Utf16(ByteOrder::BigEndian))
+    } else if page.starts_with(b"\xFF\xFE") {
+        Some(Encoding::Utf16(ByteOrder::LittleEndian))
+    } else {
+        None
+    }
 }
 
 #[tactic(auto, using(crate::proofs::Said::is_text, crate::proofs::Said::is_no_text))]
@@ -129,17 +138,17 @@ fn is_utf_8(page: &[u8]) -> bool
     }
 }
 
-/// The encoding of a page: that of its byte-order mark, else UTF-8 if it is that, else what it says
-/// among its first 1,024 bytes in a tag `meta` or, where none says anything, in an XML declaration,
-/// and UTF-8 if it says nothing. A declaration in UTF-16 counts as its mark does.
+/// The encoding of a page: that of its byte-order mark or of a declaration in UTF-16, else UTF-8 if
+/// it is that, else what it says among its first 1,024 bytes in a tag `meta` or, where none says
+/// anything, in an XML declaration, and UTF-8 if it says nothing.
 pub fn encoding_of(page: &[u8]) -> Result<Encoding, EncodingError<'_>>
     ensures { answer_of result ≡ encoding_in page.now }
 {
-    if has_utf_16_mark(page) || is_utf_16_declared(page) {
-        return Err(EncodingError::Utf16);
+    if let Some(encoding) = encoding_marked(page) {
+        return Ok(encoding);
     }
-    if has_utf_8_mark(page) {
-        return Ok(Encoding::Utf8);
+    if let Some(order) = utf_16_declared(page) {
+        return Ok(Encoding::Utf16(order));
     }
     if is_utf_8(page) {
         return Ok(Encoding::Utf8);

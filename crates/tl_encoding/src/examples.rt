@@ -1,12 +1,17 @@
 //! Worked rows: pages, and what the standard's prescan finds in them.
-#![tactic(auto, unfolding(crate::specs::Labels::names_utf_8, crate::specs::Labels::names_windows_1252, crate::specs::Labels::names_utf_16, crate::specs::Labels::names_unread))]
+#![tactic(auto, unfolding(crate::specs::Labels::labels, crate::specs::Labels::labels_unread))]
 
-ghost use Rattle.std.specs.Prelude.{◌≡◌, [], Some, None, codes};
+ghost use Rattle.std.specs.Prelude.{◌≡◌, [], ◌∷◌, Some, None, codes, encode_utf8, encode_utf8_all};
 ghost use Rattle.tl_encoding.specs.Attributes.{tag_end, value_at};
 ghost use Rattle.tl_encoding.specs.Content.{content_label};
-ghost use Rattle.tl_encoding.specs.Encodings.{encoding_in, encoding_labelled, known, unknown, utf_16};
-ghost use Rattle.tl_encoding.specs.Examples.{Declares, DeclaresNothing, Means, Says, SaysNothing};
-ghost use Rattle.tl_encoding.specs.declared.encoding.Encoding.TheVariants.{Utf8, Windows1252};
+ghost use Rattle.tl_encoding.specs.Decoders.{decoded, user_defined, wrong_in};
+ghost use Rattle.tl_encoding.specs.Encodings.{encoding_in, encoding_labelled, encoding_marked, known, unknown};
+ghost use Rattle.tl_encoding.specs.Examples.{Declares, DeclaresNothing, Means, Says, SaysNothing, latin_1};
+ghost use Rattle.tl_encoding.specs.SingleByte.{index, of_index};
+ghost use Rattle.tl_encoding.specs.Utf8.{utf_8};
+ghost use Rattle.tl_encoding.specs.declared.encoding.ByteOrder.TheVariants.{BigEndian, LittleEndian};
+ghost use Rattle.tl_encoding.specs.declared.encoding.Encoding.TheVariants.{Replacement, SingleByte, UserDefined, Utf16, Utf8};
+ghost use Rattle.tl_encoding.specs.declared.single_byte.SingleByte.TheVariants.{Iso8859_15, Iso8859_8I, Koi8R, Koi8U, Windows1252, Windows1253};
 
 /// Attributes ("get an attribute").
 pub fn attributes()
@@ -94,25 +99,90 @@ pub fn declarations()
 
 /// Where declarations count.
 pub fn declared()
-    ensures alone { Means "<?xml encoding='l1'?>" (known Windows1252) }
-    ensures behind_a_meta { Means "<?xml encoding='koi8-r'?><meta charset=l1>" (known Windows1252) }
-    ensures passed_meta { Means "<?xml encoding='l1'?><meta charset=nope>" (known Windows1252) }
+    ensures alone { Means "<?xml encoding='l1'?>" (known latin_1) }
+    ensures behind_a_meta { Means "<?xml encoding='koi8-r'?><meta charset=l1>" (known latin_1) }
+    ensures passed_meta { Means "<?xml encoding='l1'?><meta charset=nope>" (known latin_1) }
     ensures utf_16 { Means "<?xml encoding='utf-16'?>" (known Utf8) }
-    ensures user_defined { Means "<?xml encoding='x-user-defined'?>" (unknown (codes "x-user-defined")) }
+    ensures user_defined { Means "<?xml encoding='x-user-defined'?>" (known UserDefined) }
     ensures unread { Means "<?xml encoding='gbk'?>" (unknown (codes "gbk")) }
     ensures no_label { Means "<?xml encoding='nope'?>" (known Utf8) }
-    ensures little_end_first { encoding_in (codes "<\0?\0x\0") ≡ utf_16 }
-    ensures big_end_first { encoding_in (codes "\0<\0?\0x") ≡ utf_16 }
+    ensures little_end_first { encoding_in (codes "<\0?\0x\0") ≡ known (Utf16 LittleEndian) }
+    ensures big_end_first { encoding_in (codes "\0<\0?\0x") ≡ known (Utf16 BigEndian) }
     ensures too_short { encoding_in (codes "<\0?\0x") ≡ known Utf8 }
+{}
+
+/// Byte-order marks count before what a page says.
+pub fn marks()
+    ensures utf_8 { encoding_in (0xEF ∷ 0xBB ∷ 0xBF ∷ 0xE9 ∷ codes "<meta charset=l1>") ≡ known Utf8 }
+    ensures big_end_first { encoding_in (0xFE ∷ 0xFF ∷ codes "<meta charset=l1>")
+        ≡ known (Utf16 BigEndian) }
+    ensures little_end_first { encoding_in (0xFF ∷ 0xFE ∷ codes "<meta charset=l1>")
+        ≡ known (Utf16 LittleEndian) }
+    ensures half { encoding_marked (0xFF ∷ codes "<meta charset=l1>") ≡ None }
 {}
 
 /// The encodings that labels mean.
 pub fn encodings()
-    ensures latin_1 { Means "<meta charset=Latin1>" (known Windows1252) }
+    ensures latin_1 { Means "<meta charset=Latin1>" (known latin_1) }
     ensures utf_16 { Means "<meta charset=utf-16be>" (known Utf8) }
-    ensures user_defined { Means "<meta charset=x-user-defined>" (known Windows1252) }
+    ensures user_defined { Means "<meta charset=x-user-defined>" (known latin_1) }
+    ensures koi8_u { Means "<meta charset=KOI8-RU>" (known (SingleByte Koi8U)) }
+    ensures replacement { Means "<meta charset=hz-gb-2312>" (known Replacement) }
     ensures unread { Means "<meta charset=' gbk '>" (unknown (codes "gbk")) }
     ensures no_label { Means "<meta charset=nope>" (known Utf8) }
-    ensures with_white_space { encoding_labelled (codes " latin1 ") ≡ Some Windows1252 }
-    ensures utf_16_itself { encoding_labelled (codes "utf-16") ≡ None }
+    ensures with_white_space { encoding_labelled (codes " latin1 ") ≡ Some latin_1 }
+    ensures utf_16_itself { encoding_labelled (codes "utf-16") ≡ Some (Utf16 LittleEndian) }
+    ensures big_end_first { encoding_labelled (codes "UTF-16BE") ≡ Some (Utf16 BigEndian) }
+    ensures unread_itself { encoding_labelled (codes "euc-kr") ≡ None }
+{}
+
+/// What bytes stand for by an index.
+#[tactic(auto, unfolding(crate::specs::Indexes::koi8_r, crate::specs::Indexes::koi8_u, crate::specs::Indexes::windows_1252, crate::specs::Indexes::windows_1253, crate::specs::Indexes::iso_8859_8, crate::specs::Indexes::iso_8859_15))]
+pub fn single_bytes()
+    ensures letter { of_index (index Koi8R) 0xC1 ≡ 0x430 }
+    ensures ascii { of_index (index Koi8R) 0x61 ≡ 0x61 }
+    ensures euro { of_index (index Windows1252) 0x80 ≡ 0x20AC }
+    ensures control { of_index (index Windows1252) 0x81 ≡ 0x81 }
+    ensures ukrainian { of_index (index Koi8U) 0xAE ≡ 0x45E }
+    ensures visual_as_logical { of_index (index Iso8859_8I) 0xE0 ≡ 0x5D0 }
+    ensures none { of_index (index Windows1253) 0xAA ≡ 0xFFFD }
+    ensures euro_of_latin_9 { of_index (index Iso8859_15) 0xA4 ≡ 0x20AC }
+    ensures user_defined { user_defined 0xFF ≡ 0xF7FF }
+    ensures wrong { wrong_in (SingleByte Windows1253) (0x61 ∷ 0xAA ∷ []) ≡ Some 1 }
+{}
+
+/// What bytes of UTF-16 stand for, big-endian where not said.
+pub fn units()
+    ensures letter { decoded (Utf16 BigEndian) (0 ∷ 0x61 ∷ []) ≡ 0x61 ∷ [] }
+    ensures other_order { decoded (Utf16 LittleEndian) (0x61 ∷ 0 ∷ []) ≡ 0x61 ∷ [] }
+    ensures pair { decoded (Utf16 BigEndian) (0xD8 ∷ 0x3D ∷ 0xDE ∷ 0 ∷ [])
+        ≡ encode_utf8_all (0x1F600 ∷ []) }
+    ensures pair_reversed { decoded (Utf16 BigEndian) (0xDE ∷ 0 ∷ 0xD8 ∷ 0x3D ∷ [])
+        ≡ encode_utf8_all (0xFFFD ∷ 0xFFFD ∷ []) }
+    ensures unpaired { decoded (Utf16 BigEndian) (0xD8 ∷ 0x3D ∷ 0 ∷ 0x61 ∷ [])
+        ≡ encode_utf8_all (0xFFFD ∷ 0x61 ∷ []) }
+    ensures two_leading { decoded (Utf16 BigEndian) (0xD8 ∷ 0 ∷ 0xD8 ∷ 0x3D ∷ 0xDE ∷ 0 ∷ [])
+        ≡ encode_utf8_all (0xFFFD ∷ 0x1F600 ∷ []) }
+    ensures odd { decoded (Utf16 BigEndian) (0 ∷ 0x61 ∷ 0x62 ∷ [])
+        ≡ encode_utf8_all (0x61 ∷ 0xFFFD ∷ []) }
+    ensures odd_in_a_pair { decoded (Utf16 BigEndian) (0xD8 ∷ 0x3D ∷ 0xDE ∷ [])
+        ≡ encode_utf8_all (0xFFFD ∷ []) }
+    ensures wrong { wrong_in (Utf16 BigEndian) (0 ∷ 0x61 ∷ 0xD8 ∷ 0x3D ∷ 0 ∷ 0x61 ∷ []) ≡ Some 2 }
+    ensures wrong_trailing { wrong_in (Utf16 BigEndian) (0 ∷ 0x61 ∷ 0xDE ∷ 0 ∷ []) ≡ Some 2 }
+    ensures wrong_end { wrong_in (Utf16 BigEndian) (0xD8 ∷ 0x3D ∷ 0xDE ∷ []) ≡ Some 0 }
+    ensures not_wrong { wrong_in (Utf16 BigEndian) (0xFF ∷ 0xFD ∷ []) ≡ None }
+{}
+
+/// Bytes that are no UTF-8: U+FFFD for each longest run that begins a character, and for each other
+/// byte.
+pub fn wrong_bytes()
+    ensures text { utf_8 (0x61 ∷ 0xC3 ∷ 0xA9 ∷ []) ≡ 0x61 ∷ 0xE9 ∷ [] }
+    ensures alone { utf_8 (0x61 ∷ 0xFF ∷ 0x62 ∷ []) ≡ 0x61 ∷ 0xFFFD ∷ 0x62 ∷ [] }
+    ensures run { utf_8 (0xF0 ∷ 0x9F ∷ 0x98 ∷ 0x62 ∷ []) ≡ 0xFFFD ∷ 0x62 ∷ [] }
+    ensures whole { utf_8 (0xF0 ∷ 0x9F ∷ 0x98 ∷ 0x80 ∷ []) ≡ 0x1F600 ∷ [] }
+    ensures too_long { utf_8 (0xC0 ∷ 0x80 ∷ []) ≡ 0xFFFD ∷ 0xFFFD ∷ [] }
+    ensures surrogate { utf_8 (0xED ∷ 0xA0 ∷ 0x80 ∷ []) ≡ 0xFFFD ∷ 0xFFFD ∷ 0xFFFD ∷ [] }
+    ensures at_the_end { utf_8 (0xE2 ∷ 0x82 ∷ []) ≡ 0xFFFD ∷ [] }
+    ensures replaced { decoded Replacement (0x61 ∷ 0x62 ∷ []) ≡ encode_utf8 0xFFFD }
+    ensures nothing { decoded Replacement [] ≡ [] }
 {}

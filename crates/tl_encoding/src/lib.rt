@@ -7,10 +7,16 @@ mod content;
 mod declaration;
 mod encoding;
 mod examples;
+mod indexes;
 mod labels;
 mod laws;
 mod run;
+mod single_byte;
 mod text;
+mod utf_16;
 
-pub use encoding::{Encoding, EncodingError, encoding_of, encoding_said};
-pub use text::{DecodeError, decode};
+pub use encoding::{
+    ByteOrder, Encoding, EncodingError, encoding_marked, encoding_of, encoding_said,
+};
+pub use single_byte::SingleByte;
+pub use text::{DecodeError, decode, decode_strict};

@@ -1,12 +1,15 @@
 //! The text of bytes in an encoding.
-ghost use Rattle.std.specs.Prelude.{◌≡◌, Err, IfErr, IfOk, IsOk, IsUtf8, string_bytes};
+ghost use Rattle.std.specs.Prelude.{◌≡◌, ◌≢◌, ℕ, Err, None, Some, IfErr, IfOk, IsOk, IsUtf8, encode_utf8, encode_utf8_all, flat_map, string_bytes};
 ghost use Rattle.std.specs.Str.Lossy.{utf8_valid_len};
-ghost use Rattle.tl_html_spec.specs.References.{windows_1252};
-ghost use Rattle.tl_encoding.specs.Encodings.{decoded};
-ghost use Rattle.tl_encoding.specs.declared.text.DecodeError.TheVariants.{NoText, OutOfMemory};
-ghost use Rattle.tl_encoding.specs.declared.encoding.Encoding.TheVariants.{Utf8, Windows1252};
+ghost use Rattle.tl_encoding.specs.Decoders.{decoded, first_of, index_wrong, replaced, user_defined, wrong_in};
+ghost use Rattle.tl_encoding.specs.SingleByte.{of_index};
+ghost use Rattle.tl_encoding.specs.Utf8.{utf_8};
+ghost use Rattle.tl_encoding.specs.declared.text.DecodeError.TheVariants.{NoCharacter, NoText, OutOfMemory};
+ghost use Rattle.tl_encoding.specs.declared.encoding.Encoding.TheVariants.{Utf8};
 
 use crate::encoding::Encoding;
+use crate::single_byte::of_index;
+use crate::utf_16::{utf_16_text, utf_16_wrong};
 use std::alloc::{AllocError, Global};
 use thiserror::Error;
 
@@ -16,6 +19,9 @@ pub enum DecodeError {
     /// So many bytes are UTF-8, and then some are none.
     #[error("no UTF-8 at byte {0}")]
     NoText(usize),
+    /// So many bytes stand for characters in another encoding, and then some don't.
+    #[error("no character at byte {0}")]
+    NoCharacter(usize),
     /// Memory ran out.
     #[error("out of memory")]
     OutOfMemory,
@@ -29,67 +35,148 @@ impl From<AllocError> for DecodeError {
     }
 }
 
-// The character of a byte of windows-1252, by the encoding standard (its index windows-1252).
-fn character(byte: u8) -> char
-    ensures { result ≡ windows_1252 byte }
-{
-    match byte {
-        0x80 => '\u{20AC}',
-        0x82 => '\u{201A}',
-        0x83 => '\u{0192}',
-        0x84 => '\u{201E}',
-        0x85 => '\u{2026}',
-        0x86 => '\u{2020}',
-        0x87 => '\u{2021}',
-        0x88 => '\u{02C6}',
-        0x89 => '\u{2030}',
-        0x8A => '\u{0160}',
-        0x8B => '\u{2039}',
-        0x8C => '\u{0152}',
-        0x8E => '\u{017D}',
-        0x91 => '\u{2018}',
-        0x92 => '\u{2019}',
-        0x93 => '\u{201C}',
-        0x94 => '\u{201D}',
-        0x95 => '\u{2022}',
-        0x96 => '\u{2013}',
-        0x97 => '\u{2014}',
-        0x98 => '\u{02DC}',
-        0x99 => '\u{2122}',
-        0x9A => '\u{0161}',
-        0x9B => '\u{203A}',
-        0x9C => '\u{0153}',
-        0x9E => '\u{017E}',
-        0x9F => '\u{0178}',
-        byte => char::from(byte),
-    }
-}
-
-// The characters of bytes of windows-1252.
-fn characters(alloc: Global, bytes: &[u8]) -> Result<String, AllocError>
-    ensures { IfOk result (λ text. string_bytes text ≡ decoded Windows1252 bytes.now) }
+// The characters of bytes by an index.
+fn single_byte_text(alloc: Global, index: &[char; 128], bytes: &[u8]) -> Result<String, AllocError>
+    ensures { IfOk result (λ text. string_bytes text
+        ≡ flat_map (λ b. encode_utf8 (of_index index.now b)) bytes.now) }
 {
     let mut text = String::with_capacity(alloc, bytes.len())?;
     for byte in bytes {
-        text.push(character(*byte))?;
+        text.push(of_index(index, *byte))?;
     }
     Ok(text)
 }
 
-/// The text of a page in an encoding. Bytes of windows-1252 always stand for some text; bytes that
-/// are no UTF-8 are told by how many are.
-pub fn decode(alloc: Global, page: Vec<u8>, encoding: Encoding) -> Result<String, DecodeError>
+// Where the first byte stands that an index has no character for.
+fn index_wrong(index: &[char; 128], bytes: &[u8]) -> Option<usize>
+    ensures { result ≡ index_wrong index.now 0 bytes.now }
+{
+    for (at, byte) in bytes.iter().enumerate() {
+        if of_index(index, *byte) == char::REPLACEMENT_CHARACTER {
+            return Some(at);
+        }
+    }
+    None
+}
+
+// The character of a byte of x-user-defined.
+fn user_defined(byte: u8) -> char
+    ensures { result ≡ user_defined byte }
+{
+    if byte < 0x80 {
+        return char::from(byte);
+    }
+    match char::from_u32(0xF780 + u32::from(byte - 0x80)) {
+        Some(character) => character,
+        None => char::REPLACEMENT_CHARACTER,
+    }
+}
+
+// The characters of bytes of x-user-defined.
+fn user_defined_text(alloc: Global, bytes: &[u8]) -> Result<String, AllocError>
+    ensures { IfOk result (λ text. string_bytes text
+        ≡ flat_map (λ b. encode_utf8 (user_defined b)) bytes.now) }
+{
+    let mut text = String::with_capacity(alloc, bytes.len())?;
+    for byte in bytes {
+        text.push(user_defined(*byte))?;
+    }
+    Ok(text)
+}
+
+// One U+FFFD where there are any bytes.
+fn replaced(alloc: Global, bytes: &[u8]) -> Result<String, AllocError>
+    ensures { IfOk result (λ text. string_bytes text ≡ replaced bytes.now) }
+{
+    let mut text = String::new(alloc);
+    if !bytes.is_empty() {
+        text.push(char::REPLACEMENT_CHARACTER)?;
+    }
+    Ok(text)
+}
+
+// The text of bytes of UTF-8, which isn't copied where all are.
+#[tactic(auto, using(crate::proofs::Replaced::replaced))]
+fn utf_8_text(alloc: Global, page: Vec<u8>) -> Result<String, AllocError>
+    ensures text { IfOk result (λ text. string_bytes text ≡ encode_utf8_all (utf_8 page.items)) }
+    ensures reads { IsUtf8 page.items → IsOk result }
+{
+    match String::from_utf8(page) {
+        Ok(text) => Ok(text),
+        Err(error) => Ok(String::from_utf8_lossy(alloc, error.as_bytes())?),
+    }
+}
+
+/// The text of a page in an encoding, by its decoder: U+FFFD stands for bytes that are wrong.
+pub fn decode(alloc: Global, page: Vec<u8>, encoding: Encoding) -> Result<String, AllocError>
+    ensures text { IfOk result (λ text. string_bytes text ≡ decoded encoding page.items) }
+    ensures reads { encoding ≡ Utf8 → IsUtf8 page.items → IsOk result }
+{
+    match encoding {
+        Encoding::Utf8 => utf_8_text(alloc, page),
+        Encoding::Utf16(order) => utf_16_text(alloc, order, page.as_slice()),
+        Encoding::SingleByte(name) => single_byte_text(alloc, name.index(), page.as_slice()),
+        Encoding::UserDefined => user_defined_text(alloc, page.as_slice()),
+        Encoding::Replacement => replaced(alloc, page.as_slice()),
+    }
+}
+
+// Where the first error begins in another encoding than UTF-8.
+fn wrong_in(encoding: Encoding, bytes: &[u8]) -> Option<usize>
+    ensures { result ≡ wrong_in encoding bytes.now }
+{
+    match encoding {
+        Encoding::Utf8 | Encoding::UserDefined => None,
+        Encoding::Utf16(order) => utf_16_wrong(order, bytes),
+        Encoding::SingleByte(name) => index_wrong(name.index(), bytes),
+        Encoding::Replacement if bytes.is_empty() => None,
+        Encoding::Replacement => Some(0),
+    }
+}
+
+// The text of bytes of UTF-8, if all are.
+fn utf_8_strict(page: Vec<u8>) -> Result<String, DecodeError>
+    ensures text { IfOk result (λ text. string_bytes text ≡ encode_utf8_all (utf_8 page.items)) }
+    ensures reads { IsUtf8 page.items → IsOk result }
+    ensures no_text { ¬ (IsUtf8 page.items) → result ≡ Err (NoText (utf8_valid_len page.items)) }
+{
+    match String::from_utf8(page) {
+        Ok(text) => Ok(text),
+        Err(error) => Err(DecodeError::NoText(error.utf8_error().valid_up_to())),
+    }
+}
+
+// The text of bytes in another encoding, if none is wrong.
+fn other_strict(alloc: Global, page: Vec<u8>, encoding: Encoding) -> Result<String, DecodeError>
+    ensures text { IfOk result (λ text. string_bytes text ≡ decoded encoding page.items) }
+    ensures no_character { (at : ℕ) → wrong_in encoding page.items ≡ Some at
+        → result ≡ Err (NoCharacter at) }
+    ensures memory { wrong_in encoding page.items ≡ None
+        → IfErr result (λ error. error ≡ OutOfMemory) }
+{
+    if let Some(at) = wrong_in(encoding, page.as_slice()) {
+        return Err(DecodeError::NoCharacter(at));
+    }
+    Ok(decode(alloc, page, encoding)?)
+}
+
+/// The text of a page in an encoding, if no byte is wrong; else where the first is.
+pub fn decode_strict(
+    alloc: Global,
+    page: Vec<u8>,
+    encoding: Encoding,
+) -> Result<String, DecodeError>
     ensures text { IfOk result (λ text. string_bytes text ≡ decoded encoding page.items) }
     ensures reads { encoding ≡ Utf8 → IsUtf8 page.items → IsOk result }
     ensures no_text { encoding ≡ Utf8 → ¬ (IsUtf8 page.items)
         → result ≡ Err (NoText (utf8_valid_len page.items)) }
-    ensures memory { encoding ≡ Windows1252 → IfErr result (λ error. error ≡ OutOfMemory) }
+    ensures no_character { (at : ℕ) → wrong_in encoding page.items ≡ Some at
+        → result ≡ Err (NoCharacter at) }
+    ensures memory { encoding ≢ Utf8 → wrong_in encoding page.items ≡ None
+        → IfErr result (λ error. error ≡ OutOfMemory) }
 {
     match encoding {
-        Encoding::Utf8 => match String::from_utf8(page) {
-            Ok(text) => Ok(text),
-            Err(error) => Err(DecodeError::NoText(error.utf8_error().valid_up_to())),
-        },
-        Encoding::Windows1252 => Ok(characters(alloc, page.as_slice())?),
+        Encoding::Utf8 => utf_8_strict(page),
+        other => other_strict(alloc, page, other),
     }
 }

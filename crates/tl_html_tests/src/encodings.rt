@@ -1,20 +1,44 @@
 //! Which encoding pages say that they are in.
-use tl_encoding::{Encoding, EncodingError, encoding_said};
+use tl_encoding::{ByteOrder, Encoding, EncodingError, SingleByte, encoding_marked, encoding_said};
+
+// What pages say.
+type Said = Result<Encoding, EncodingError<'static>>;
+
+const LATIN_1: Encoding = Encoding::SingleByte(SingleByte::Windows1252);
 
 // Pages of ASCII, and what they say: it counts also where the bytes are UTF-8.
 #[rattlefmt::skip]
-static SAID: [(&[u8], Result<Encoding, EncodingError<'static>>); 6] = [
+static SAID: [(&[u8], Said); 8] = [
     (b"<p>a", Ok(Encoding::Utf8)),
     (b"<meta charset=utf-8><p>a", Ok(Encoding::Utf8)),
-    (b"<meta charset=latin1><p>a", Ok(Encoding::Windows1252)),
-    (b"<?xml version=\"1.0\" encoding=\"latin1\"?><p>a", Ok(Encoding::Windows1252)),
+    (b"<meta charset=latin1><p>a", Ok(LATIN_1)),
+    (b"<?xml version=\"1.0\" encoding=\"latin1\"?><p>a", Ok(LATIN_1)),
     (b"<?xml version=\"1.0\" encoding=\"latin1\"?><meta charset=utf-8>", Ok(Encoding::Utf8)),
-    (b"<meta charset=koi8-r><p>a", Err(EncodingError::Unknown(b"koi8-r"))),
+    (b"<meta charset=koi8-r><p>a", Ok(Encoding::SingleByte(SingleByte::Koi8R))),
+    (b"<meta charset=utf-16le><p>a", Ok(Encoding::Utf8)),
+    (b"<meta charset=gbk><p>a", Err(EncodingError::Unknown(b"gbk"))),
+];
+
+// What pages begin with, and the encoding of that as a mark.
+#[rattlefmt::skip]
+static MARKED: [(&[u8], Option<Encoding>); 5] = [
+    (b"\xEF\xBB\xBFa", Some(Encoding::Utf8)),
+    (b"\xFE\xFF\0a", Some(Encoding::Utf16(ByteOrder::BigEndian))),
+    (b"\xFF\xFEa\0", Some(Encoding::Utf16(ByteOrder::LittleEndian))),
+    (b"\xEF\xBBa", None),
+    (b"", None),
 ];
 
 #[test]
 fn what_pages_say_counts_whatever_they_are(rt: HostRuntime) {
     for (page, said) in &SAID {
         assert!(rt; encoding_said(page) == *said);
+    }
+}
+
+#[test]
+fn marks_say_an_encoding(rt: HostRuntime) {
+    for (page, marked) in &MARKED {
+        assert!(rt; encoding_marked(page) == *marked);
     }
 }

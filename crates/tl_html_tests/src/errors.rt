@@ -26,16 +26,16 @@ static OF_EDIT: [(EditError, &str); 8] = [
     (EditError::OutOfMemory, "out of memory"),
 ];
 
-static OF_DECODE: [(DecodeError, &str); 2] = [
+static OF_DECODE: [(DecodeError, &str); 3] = [
     (DecodeError::NoText(7), "no UTF-8 at byte 7"),
+    (DecodeError::NoCharacter(7), "no character at byte 7"),
     (DecodeError::OutOfMemory, "out of memory"),
 ];
 
-#[rattlefmt::skip]
-static OF_ENCODING: [(EncodingError<'static>, &str); 2] = [
-    (EncodingError::Utf16, "UTF-16 is not read"),
-    (EncodingError::Unknown(b"koi8\xFF"), "the encoding `koi8\u{FFFD}` is not read"),
-];
+static OF_ENCODING: [(EncodingError<'static>, &str); 1] = [(
+    EncodingError::Unknown(b"gbk\xFF"),
+    "the encoding `gbk\u{FFFD}` is not read",
+)];
 
 // Whether an error says this.
 fn says<E: Display>(alloc: Global, error: &E, text: &str) -> bool {
