@@ -87,7 +87,7 @@ def splices(page, at, word, content):
         "replace": [(at, past, (content,))],
         "fill": [(front, end, (content,))],
         "append": [(end, end, (content,))],
-        "after": [(past, past, (("end", page.tokens[at][1]), content) if kind == "implied" else (content,))],
+        "after": [(past, past, (content,))],
     }[word]
 
 
@@ -113,34 +113,49 @@ def gone_without(page, found, word, content):
             begin, until = at, splices(page, at, word, content)[0][1]
 
 
-def left_open(page):
-    """For each token before which elements end with their end tags left out the outermost of them: the start tag that stands first."""
-    found = {}
-    for at, (end, _) in page.ends.items():
-        if extent(page, at)[0] == "implied":
-            found[end] = min(at, found.get(end, at))
-    return found
+class LeftOpen:
+    """The elements that end without their end tag, by their start tags: `before` has of each token the outermost that ends before it,
+    `inside` of each element the outermost in it that ends where this one ends, and `own` those that have got no end tag and need one.
+    An inner element comes before an outer one. `</body>` and `</html>` end nothing."""
+
+    def __init__(self, page):
+        self.before, self.inside, self.own = {}, {}, set()
+        for at, (end, is_own) in sorted(page.ends.items(), key=lambda it: -it[0]):
+            if end == at:
+                continue
+            if end in self.before:
+                self.inside[at] = self.before[end]
+            if not is_own and page.tokens[at][1] not in ("html", "body"):
+                self.before[end] = at
+                self.own.add(at)
+
+    def end(self, word, found):
+        """A word needs no end tags of what it takes away, nor of tags that go or get another name."""
+        if word in ("remove", "unwrap", "replace", "rename"):
+            self.own -= set(found)
+        if word in ("remove", "replace", "fill"):
+            self.own -= {self.inside.get(at) for at in found}
 
 
 def end_tags(page, at, word, left):
-    """The end tags that a word puts in for the element of a start tag, of what is left open before it, or before the end tag that goes with
-    `unwrap`; and takes what it ends from what is left open."""
+    """The end tags that a word puts in for the element of a start tag: of what is left open before it, or where it ends, or its own."""
     kind, end = extent(page, at)
-    places = [at] if word in ("before", "replace", "rename", "unwrap") else []
-    if word == "unwrap" and kind == "whole":
-        places.append(end)
-    outer = [(token, left.pop(token)) for token in places if token in left]
-    if word in ("remove", "replace", "rename", "unwrap", "after") and kind == "implied" and left.get(end) == at:
-        del left[end]
-    return [(token, token, -start, (("end", page.tokens[start][1]),)) for token, start in outer]
+    closed = [(at, left.before.get(at))] if word in ("before", "replace", "rename", "unwrap") else []
+    if kind in ("whole", "implied"):
+        closed.append((end, left.inside.get(at) if word in ("append", "rename", "unwrap") else at if word == "after" else None))
+    closed = [(token, start) for token, start in closed if start in left.own]
+    left.own -= {start for _, start in closed}
+    return [(token, token, (-start, 1), (("end", page.tokens[start][1]),)) for token, start in closed]
 
 
 def asked_of(page, found, word, content):
     """The splices of several elements, in order, as (from, until, the turn, what is put). One that begins in what another takes away goes with
-    it; of what is put at one place that of the inner element comes first, and what stands before an element last."""
-    asked, left = [], left_open(page)
+    it; of what is put at one place that of the inner element comes first, and what stands before an element last; of one element what
+    stands in it, then its end tag, then what stands after it."""
+    asked, left = [], LeftOpen(page)
+    left.end(word, found)
     for at in gone_without(page, found, word, content):
-        turn = 1 if word == "before" else -at
+        turn = (1, 0) if word == "before" else (-at, 2 if word == "after" else 0)
         asked += [(begin, until, turn, contents) for begin, until, contents in splices(page, at, word, content)]
         asked += end_tags(page, at, word, left)
     return sorted(asked)
@@ -185,9 +200,9 @@ def misread(page, asked):
     for begin, _, turn, contents in asked:
         for kind, text in contents:
             if kind == "text" and has_markup(text) and page.is_unescaped(begin) and unsure(page) < begin:
-                return begin if turn > 0 else -turn, unsure(page)
+                return begin if turn[0] > 0 else -turn[0], unsure(page)
             if kind == "renamed" and text in UNSURE and has_raw_markup(page, begin):
-                return -turn, begin
+                return -turn[0], begin
     return None
 
 

@@ -253,8 +253,8 @@ Something stands in their place, in them, before or after them: a text, or marku
   $ printf '<title>a &amp; b</title>c' | tl unwrap title
   a &amp; bc (no-eol)
 
-What is put before an element, or in its place, stands outside of the one before: an end tag that is left out there is put in, once,
-and none where nothing is open.
+What is put before an element, or in its place, stands outside of the one before: an end tag that is missing there is put in, once, and
+none where nothing is open.
 
   $ printf '<ul><li>a<li>b</ul>' | tl before 'li:nth-child(2)' X
   <ul><li>a</li>X<li>b</ul> (no-eol)
@@ -283,6 +283,29 @@ and none where nothing is open.
   $ printf '<p>a<p>b<p>c' | tl prepend 'p:nth-child(2)' X
   <p>a<p>Xb<p>c (no-eol)
 
+What is put last in an element stands in no other one, nor does what stands behind an element whose tags go or get another name.
+
+  $ printf '<h1>a<h2>b</h2>' | tl before h2 X
+  <h1>a</h1>X<h2>b</h2> (no-eol)
+  $ printf '<div><p>a</div>' | tl append div X
+  <div><p>a</p>X</div> (no-eol)
+  $ printf '<div><p>a</div>' | tl append 'div, p' X
+  <div><p>aX</p>X</div> (no-eol)
+  $ printf '<div><p>a</div>' | tl prepend div X
+  <div>X<p>a</div> (no-eol)
+  $ printf '<ul><li><p>a<li>b</ul>' | tl append li X
+  <ul><li><p>a</p>X<li>bX</ul> (no-eol)
+  $ printf '<div><span>a</div>' | tl append div X
+  <div><span>a</span>X</div> (no-eol)
+  $ printf '<div><p>a</div>b' | tl rename div x-y
+  <x-y><p>a</p></x-y>b (no-eol)
+  $ printf '<div><p>a</div>b' | tl unwrap div
+  <p>a</p>b (no-eol)
+  $ printf '<ul><li><p>a</ul>' | tl rename 'li, p' b
+  <ul><b><b>a</b></b></ul> (no-eol)
+  $ printf '<ul><li><p>a</ul>' | tl after 'li, p' X
+  <ul><li><p>a</p>X</li>X</ul> (no-eol)
+
 A body ends at its end tag, where that stands last in the page.
 
   $ printf '<body>\n<p>a</p></body></html>\n' >whole
@@ -307,7 +330,7 @@ A body ends at its end tag, where that stands last in the page.
   [2]
   $ printf '<html><body><p>a</BODY> <!--b--></html>\n' >open
   $ tl append body '!' open
-  <html><body><p>a!</BODY> <!--b--></html>
+  <html><body><p>a</p>!</BODY> <!--b--></html>
   $ tl append html '!' open
   <html><body><p>a</BODY> <!--b-->!</html>
   $ tl remove p open
@@ -339,7 +362,8 @@ Something may stand behind the last byte, where what the page ends with is read 
   $ printf '<p>1 <' | tl append --html p 'b>'
   <p>1 <</>b> (no-eol)
   $ printf '<p><title>a' | tl append p x
-  <p><title>ax (no-eol)
+  tl: -: the page would be read otherwise, for the element at byte 0 (err)
+  [2]
   $ printf '<p>a<b' | tl append p x
   tl: -: the page would be read otherwise, for the element at byte 0 (err)
   [2]
@@ -478,7 +502,7 @@ What is refused.
   $ od -An -c bytes | tr -d ' \n'
   <a>377 (no-eol)
   $ printf '<\0?\0x\0m\0l\0 \0v\0?\0>\0<\0p\0>\0a\0' | tl set p k v
-  tl: -: UTF-16 is not read (err)
+  tl: -: UTF-16 is not changed (err)
   [2]
   $ printf '<meta charset=latin1><p>a' | tl set p k é
   tl: -: what is put is no ASCII, and the page says another encoding than UTF-8 (err)
@@ -621,7 +645,7 @@ An element has to be whole: what begins in the bytes that it has by its end tags
   tl: -: the element at line 2, column 1 isn't whole, so its tag alone can be changed: what begins at line 2, column 1 is in it by its tags or to browsers, and not by both (err)
   [2]
   $ printf '<div><b>1<p>2</b>3</p></div>' | tl append div x
-  <div><b>1<p>2</b>3</p>x</div> (no-eol)
+  <div><b>1<p>2</b>3</p></b>x</div> (no-eol)
   $ printf '<table><tr><i>1</i><td>2</table>' | tl fill tr x
   tl: -: the element at line 1, column 8 isn't whole, so its tag alone can be changed: what begins at line 1, column 12 is in it by its tags or to browsers, and not by both (err)
   [2]

@@ -65,7 +65,7 @@ static PAGE_ROWS: [Row; 86] = [
     (ElementPatch::Append { content: Content::Markup { markup: b"b>" } }, 0, b"<p>3 <", Ok(b"<p>3 <</>b>")),
     (ElementPatch::Append { content: Content::Markup { markup: b"<" } }, 0, b"<p>x", Ok(b"<p>x<")),
     (ElementPatch::Append { content: Content::Markup { markup: b"<i" } }, 0, b"<p>x", Ok(b"<p>x<i")),
-    (ElementPatch::Append { content: Content::Text { text: b"y" } }, 0, b"<p><title>x", Ok(b"<p><title>xy")),
+    (ElementPatch::Append { content: Content::Text { text: b"y" } }, 0, b"<p><title>x", Err(EditError::ReadOtherwise(0))),
     (ElementPatch::Append { content: MARKUP }, 0, b"<p><title>x", Err(EditError::ReadOtherwise(0))),
     (ElementPatch::Append { content: MARKUP }, 0, b"<li><plaintext>x", Err(EditError::ReadOtherwise(0))),
     (ElementPatch::Fill { content: Content::Text { text: b"y" } }, 0, b"<p>", Ok(b"<p>y")),
@@ -107,9 +107,21 @@ static PAGE_ROWS: [Row; 86] = [
     (ElementPatch::Unwrap, 0, b"<select><option>a</select>b", Ok(b"<option>a</option>b")),
 ];
 
+// What is left open in an element, or before it, gets its end tag.
+#[rattlefmt::skip]
+static LEFT_OPEN_ROWS: [Row; 7] = [
+    (ElementPatch::PutBefore { content: Content::Text { text: b"x" } }, 5, b"<H1>a<h2>b</h2>", Ok(b"<H1>a</h1>x<h2>b</h2>")),
+    (ElementPatch::Append { content: Content::Text { text: b"x" } }, 0, b"<div><p>a</div>", Ok(b"<div><p>a</p>x</div>")),
+    (ElementPatch::Append { content: Content::Text { text: b"x" } }, 0, b"<div><span>a</div>", Ok(b"<div><span>a</span>x</div>")),
+    (ElementPatch::Append { content: Content::Text { text: b"x" } }, 4, b"<ul><li><P>a<li>b</ul>", Ok(b"<ul><li><P>a</p>x<li>b</ul>")),
+    (ElementPatch::Append { content: Content::Text { text: b"x" } }, 0, b"<div><X\0>a</div>", Ok(b"<div><X\0>a</x\xEF\xBF\xBD>x</div>")),
+    (ElementPatch::Rename { name: b"x-y" }, 0, b"<div><p>a</div>", Ok(b"<x-y><p>a</p></x-y>")),
+    (ElementPatch::Unwrap, 0, b"<p><option>a<hr>", Ok(b"<option>a</option><hr>")),
+];
+
 // What is open where `</body>` and `</html>` stand last in the page.
 #[rattlefmt::skip]
-static TAIL_ROWS: [Row; 21] = [
+static TAIL_ROWS: [Row; 24] = [
     (ElementPatch::Append { content: MARKUP }, 0, b"<body>a</body></html>\n", Ok(b"<body>a<hr>p;</body></html>\n")),
     (ElementPatch::Append { content: MARKUP }, 0, b"<body></body>", Ok(b"<body><hr>p;</body>")),
     (ElementPatch::Append { content: MARKUP }, 0, b"<body>a</BODY\n> <!--b--></html>", Ok(b"<body>a<hr>p;</BODY\n> <!--b--></html>")),
@@ -131,6 +143,9 @@ static TAIL_ROWS: [Row; 21] = [
     (ElementPatch::Rename { name: b"div" }, 6, b"<html><body>a</html>", Ok(b"<html><div>a</div></html>")),
     (ElementPatch::PutAfter { content: TEXT }, 6, b"<body><p>a</body>", Ok(b"<body><p>a</p>1 &lt; 2 &amp; 3</body>")),
     (ElementPatch::PutAfter { content: TEXT }, 0, b"<body>a</body></html>", Err(EditError::NotMeant(0))),
+    (ElementPatch::Append { content: MARKUP }, 0, b"<body><p>a</body></html>", Ok(b"<body><p>a</p><hr>p;</body></html>")),
+    (ElementPatch::Append { content: MARKUP }, 0, b"<html><body><p>a</html>", Ok(b"<html><body><p>a</p><hr>p;</html>")),
+    (ElementPatch::Append { content: MARKUP }, 0, b"<html><body>a</html>", Ok(b"<html><body>a<hr>p;</html>")),
 ];
 
 // What is done, the bytes where the start tags begin, the page, and what comes of it.
@@ -171,7 +186,7 @@ static SEVERAL_ROWS: [SeveralRow; 37] = [
     (ElementPatch::PutAfter { content: Content::Text { text: b"y" } }, &[4, 8], b"<ul><li><b>x</b></ul>", Ok(b"<ul><li><b>x</b>y</li>y</ul>")),
     (ElementPatch::PutAfter { content: Content::Text { text: b"y" } }, &[0, 4], b"<br><br>z", Ok(b"<br>y<br>yz")),
     (ElementPatch::PutAfter { content: Content::Text { text: b"z" } }, &[0, 8], b"<b>x</b><b>y</b>", Ok(b"<b>x</b>z<b>y</b>z")),
-    (ElementPatch::Append { content: Content::Text { text: b"z" } }, &[0, 6], b"<body><p>x", Ok(b"<body><p>xzz")),
+    (ElementPatch::Append { content: Content::Text { text: b"z" } }, &[0, 6], b"<body><p>x", Ok(b"<body><p>xz</p>z")),
     (ElementPatch::Fill { content: TEXT }, &[0, 8], b"<i>a</i><br>z", Err(EditError::NotMeant(8))),
     (ElementPatch::Fill { content: MARKUP }, &[0, 8], b"<i>a</i><title>b</title>", Err(EditError::NotWritten(8))),
     (ElementPatch::Append { content: Content::Markup { markup: b"<!-- " } }, &[0, 8], b"<i>a</i><i>b</i>", Err(EditError::ReadOtherwise(0))),
@@ -194,7 +209,7 @@ const Y: Content<'static> = Content::Text { text: b"y" };
 const Z: Content<'static> = Content::Text { text: b"z" };
 
 #[rattlefmt::skip]
-static EACH_ROWS: [EachRow; 26] = [
+static EACH_ROWS: [EachRow; 32] = [
     (&[], b"a<b>x</b>c", Ok(b"a<b>x</b>c")),
     (&[PlacedPatch { place: 1, patch: ElementPatch::Remove }, PlacedPatch { place: 10, patch: ElementPatch::Append { content: Z } }], b"a<b>x</b>c<i>y</i>d", Ok(b"ac<i>yz</i>d")),
     (&[PlacedPatch { place: 0, patch: ElementPatch::Append { content: Y } }, PlacedPatch { place: 0, patch: ElementPatch::Append { content: Z } }], b"<b>x</b>", Ok(b"<b>xyz</b>")),
@@ -221,11 +236,24 @@ static EACH_ROWS: [EachRow; 26] = [
     (&[PlacedPatch { place: 4, patch: ElementPatch::Rename { name: b"b" } }, PlacedPatch { place: 4, patch: ElementPatch::PutBefore { content: Z } }], b"<p>a<p>b", Ok(b"<p>a</p>z<b>b</b>")),
     (&[PlacedPatch { place: 4, patch: ElementPatch::PutBefore { content: Y } }, PlacedPatch { place: 4, patch: ElementPatch::PutBefore { content: Z } }], b"<p>a<p>b", Ok(b"<p>a</p>yz<p>b")),
     (&[PlacedPatch { place: 0, patch: ElementPatch::Remove }, PlacedPatch { place: 4, patch: ElementPatch::PutBefore { content: Z } }], b"<p>a<p>b", Ok(b"z<p>b")),
+    (&[PlacedPatch { place: 0, patch: ElementPatch::PutAfter { content: Y } }, PlacedPatch { place: 0, patch: ElementPatch::PutAfter { content: Z } }], b"<p>a", Ok(b"<p>a</p>yz")),
+    (&[PlacedPatch { place: 0, patch: ElementPatch::PutAfter { content: Y } }, PlacedPatch { place: 0, patch: ElementPatch::Rename { name: b"b" } }], b"<p>a", Ok(b"<b>a</b>y")),
+    (&[PlacedPatch { place: 0, patch: ElementPatch::PutAfter { content: Y } }, PlacedPatch { place: 0, patch: ElementPatch::Unwrap }], b"<p>a<hr>", Ok(b"ay<hr>")),
+    (&[PlacedPatch { place: 0, patch: ElementPatch::Remove }, PlacedPatch { place: 0, patch: ElementPatch::PutAfter { content: Y } }], b"<p>a<hr>", Ok(b"y<hr>")),
+    (&[PlacedPatch { place: 0, patch: ElementPatch::Fill { content: Z } }, PlacedPatch { place: 0, patch: ElementPatch::Append { content: Y } }], b"<div><p>a</div>", Ok(b"<div>zy</div>")),
+    (&[PlacedPatch { place: 4, patch: ElementPatch::Append { content: Y } }, PlacedPatch { place: 8, patch: ElementPatch::PutAfter { content: Z } }], b"<ul><li><p>a<li>b</ul>", Ok(b"<ul><li><p>a</p>zy<li>b</ul>")),
 ];
 
 #[test]
 fn elements_are_changed(rt: HostRuntime) {
     for (patch, place, page, wanted) in &PAGE_ROWS {
+        assert!(rt; is_answer(patch_element(rt.alloc(), page, *place, *patch), *wanted));
+    }
+}
+
+#[test]
+fn what_is_left_open_is_closed(rt: HostRuntime) {
+    for (patch, place, page, wanted) in &LEFT_OPEN_ROWS {
         assert!(rt; is_answer(patch_element(rt.alloc(), page, *place, *patch), *wanted));
     }
 }

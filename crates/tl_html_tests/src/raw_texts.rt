@@ -47,7 +47,7 @@ static ROWS: [Row; 36] = [
     (&[PlacedPatch { place: 0, patch: ElementPatch::Rename { name: b"select" } }], b"<div><iframe>&amp;</iframe></div>", Err(EditError::Misread(0, 0))),
     (&[PlacedPatch { place: 0, patch: ElementPatch::Rename { name: b"template" } }], b"<div><noembed>a<</noembed></div>", Err(EditError::Misread(0, 0))),
     (&[PlacedPatch { place: 0, patch: ElementPatch::Rename { name: b"frameset" } }], b"<div><noframes>a<</noframes></div>", Err(EditError::Misread(0, 0))),
-    (&[PlacedPatch { place: 0, patch: ElementPatch::Rename { name: b"select" } }], b"<div><style>a</style><p>&lt;</div>", Ok(b"<select><style>a</style><p>&lt;</select>")),
+    (&[PlacedPatch { place: 0, patch: ElementPatch::Rename { name: b"select" } }], b"<div><style>a</style><p>&lt;</div>", Ok(b"<select><style>a</style><p>&lt;</p></select>")),
     (&[PlacedPatch { place: 0, patch: ElementPatch::Rename { name: b"select" } }], b"<div><title><i></title></div>", Err(EditError::Misread(0, 0))),
     (&[PlacedPatch { place: 16, patch: ElementPatch::Rename { name: b"svg" } }], b"<style>&</style><b></b>", Ok(b"<style>&</style><svg></svg>")),
     (&[PlacedPatch { place: 0, patch: ElementPatch::Rename { name: b"p" } }], b"<svg><style>&</style></svg>", Ok(b"<p><style>&</style></p>")),

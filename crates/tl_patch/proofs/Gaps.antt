@@ -153,9 +153,6 @@ gap_read gap text g o = gap_between gap text after_value tt g o
 
 -- a key that ends, and has no value
 
-ended_adding : (closes w : Bool) (xs add : List HtmlAttribute) (o : Outcome) → o ≡ ended closes xs w [] → adding_to add o ≡ ended closes (add ++ xs) w []
-ended_adding closes w xs add o e = ap (adding_to add) e
-
 after_read : (k : List ℕ) (text : List ℕ) (v closes w : Bool) (xs : List HtmlAttribute) → free_after text ≡ true → inner_text before_key v text ≡ ended closes xs w [] →
     inner_text (after_key k) v text ≡ ended closes ((k, []) ∷ xs) w []
 after_read k [] v closes w xs f e = absurd (true≢false (sym f))

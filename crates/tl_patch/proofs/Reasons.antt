@@ -187,10 +187,6 @@ pub token_refused : (page : List ℕ) (ts : List Token) (patches : List TagPatch
 token_refused page ts patches at next end d e h l o all w =
     by_here page ts at d (map patch_view patches) (map patch_view (take next patches)) (here_of patches next end) (map patch_view (drop end patches)) e h l (all_split patches next end o) all w
 
-pub why_here : (here : List TagPatch) (page : List ℕ) (t : Token) (e : PatchError) → 0 < length here → IsTokenReason (map patch_view here) page t e → IsReasonHere (map patch_view here) page t e
-why_here [] page t e l w = absurd (omega arith)
-why_here (x ∷ here) page t e l w = w
-
 -- what is left over: no token that was gone over begins at the place of its first patch, or one before it has a greater place
 
 abbrev pub HeadElsewhere : ℕ → List PlacedChange → List PlacedChange → Type 0

@@ -14,7 +14,6 @@ use Rattle.tl_html_tokens.specs.declared.stage.TokenKind.{TokenKind}
 use Rattle.tl_html_tokens.specs.declared.stage.TokenKind.TheVariants as kind
 use Rattle.tl_html_tokens.specs.declared.token.Token.{Token}
 use Rattle.tl_patch.specs.Inner.Steps.{kind_number, mode_number}
-use Rattle.tl_patch.proofs.KeyChanges.{whole_same}
 
 abbrev pub Says : TokenKind → Mode → List ℕ → List HtmlToken → Type 0
 Says kind.Text mode bytes tokens = tokens ≡ map Character (characters_of mode bytes)
@@ -23,14 +22,6 @@ Says kind.Doctype mode bytes tokens = tokens ≡ DoctypeToken ∷ []
 Says kind.Nothing mode bytes tokens = tokens ≡ []
 Says kind.StartTag mode bytes tokens = IsWhole mode bytes tokens
 Says kind.EndTag mode bytes tokens = IsWhole mode bytes tokens
-
-pub same_says : (k : TokenKind) (m : Mode) (bytes : List ℕ) (ts us : List HtmlToken) → Says k m bytes ts → Says k m bytes us → ts ≡ us
-same_says kind.Text m bytes ts us h k = h ∙ sym k
-same_says kind.Comment m bytes ts us h k = h ∙ sym k
-same_says kind.Doctype m bytes ts us h k = h ∙ sym k
-same_says kind.Nothing m bytes ts us h k = h ∙ sym k
-same_says kind.StartTag m bytes ts us h k = whole_same m bytes ts us h k
-same_says kind.EndTag m bytes ts us h k = whole_same m bytes ts us h k
 
 doctype_is : (ts : List HtmlToken) → IsDoctype ts → ts ≡ DoctypeToken ∷ []
 doctype_is (DoctypeToken ∷ []) h = refl

@@ -63,7 +63,3 @@ none_refused (p ∷ patches) zero d l h = (neither (is_refused (change_view p.ch
 none_refused (p ∷ patches) (suc at) d l h = none_refused patches at d (omega arith) (neither (is_refused (change_view p.change)) (has_refused (map patch_view patches)) h).1
 
 -- where nothing is found, one of the changes is refused
-
-pub some_refused : {A E : Type 0} (r : Result (Option A) E) (refused : Bool) → r ≡ Ok None → (refused ≡ false → IfOk r (λ found. is_some found ≡ true)) → refused ≡ true
-some_refused r true e f = refl
-some_refused r false e f = absurd (true≢false (sym (subst (λ x. IfOk x (λ found. is_some found ≡ true)) e (f refl))))

@@ -24,13 +24,6 @@ pub made_as : (here : List TagPatch) (page : List ℕ) (t : Token) (put : List �
     IsMade (map patch_view here) page t put
 made_as here page t put s m = record { start = inr s; attributes = views_are here; made = m }
 
-pub kept_as : (here : List TagPatch) (page : List ℕ) (t : Token) (old new : List ℕ) → here ≡ [] → new ≡ old ++ bytes_at page t → IsWritten (map patch_view here) page t old new
-kept_as here page t old new e is = record {
-  put = bytes_at page t;
-  is = is;
-  made = subst (λ (xs : List TagPatch). IsMade (map patch_view xs) page t (bytes_at page t)) (sym e) (record { start = inl refl; attributes = tt; made = refl });
-}
-
 pub begun : (page : List ℕ) (ts : List Token) (changes : List PlacedChange) (text : List ℕ) → text ≡ mark_of page → (rest : List ℕ) → AreWritten page ts changes rest → IsPage page ts changes (text ++ rest)
 begun page ts changes text e rest w = record { bytes = rest; is = ap (λ x. x ++ rest) e; written = w }
 

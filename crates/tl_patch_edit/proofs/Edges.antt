@@ -198,9 +198,6 @@ separator_edges true = record {
 }
 separator_edges false = record { empty = refl; last = λ x p s. s; first = λ y q s. s }
 
-pub nothing_edges : (parts : List Part) → parts ≡ [] → SameEdges parts []
-nothing_edges parts e = subst (λ (xs : List Part). SameEdges xs []) (sym e) (record { empty = refl; last = λ x p s. s; first = λ y q s. s })
-
 -- a part of what is no text
 one_edges : (k : TokenKind) (m : Mode) (x y : List ℕ) (s : State) (ts : List HtmlToken) → s ≡ state_of m → y ≡ x → is_text_kind k ≡ false → are_characters ts ≡ false →
     SameEdges (record { kind = k; mode = m; bytes = x } ∷ []) (piece s y ts ∷ [])

@@ -68,9 +68,6 @@ not_given o a v e k h = ap (λ x. x && v) (sym k) ∙ sym h ∙ ap is_some e
 
 -- where no tag stands in markup
 
-pub outside_markup : (m : Mode) (k : TokenKind) (b : List ℕ) → is_data m ≡ false → (is_data m && begins_as k b) ≡ false
-outside_markup m k b h = ap (λ v. v && begins_as k b) h
-
 pub begins_not : (m : Mode) (k : TokenKind) (b : List ℕ) → begins_as k b ≡ false → (is_data m && begins_as k b) ≡ false
 begins_not m k b h = ap (λ v. is_data m && v) h ∙ last_false (is_data m)
   where

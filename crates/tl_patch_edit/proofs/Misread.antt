@@ -13,7 +13,6 @@ use Rattle.tl_html_tokens.specs.Characters.{characters_of}
 use Rattle.tl_html_tokens.specs.Kinds.{IsKind, IsStartTag}
 use Rattle.tl_html_tokens.specs.Modes.{state_of}
 use Rattle.tl_html_tokens.specs.Tokens.{AreTokensOf, mark_len}
-use Rattle.tl_html_tokens.specs.Whole.{IsWhole}
 use Rattle.tl_html_tokens.specs.declared.stage.TokenKind.{TokenKind}
 use Rattle.tl_html_tokens.specs.declared.stage.TokenKind.TheVariants as kind
 use Rattle.tl_html_tokens.specs.declared.token.Token.{Token}
@@ -23,7 +22,6 @@ use Rattle.tl_patch_spec.specs.Splices.{Splice}
 use Rattle.tl_patch_spec.specs.Together.{ask_of}
 use Rattle.tl_patch_edit.specs.Asks.{ask_view, asks_view}
 use Rattle.tl_patch_edit.specs.Errors.{IsRefused, pieces_in, placed_pieces}
-use Rattle.tl_patch_edit.specs.Found.{IsTagName}
 use Rattle.tl_patch_edit.specs.Inner.Limits.{AreKept, AreLimits, BeginsToken, IsMisreadError, is_misread_in, is_raw_at, is_start_kind}
 use Rattle.tl_patch_edit.specs.Inner.Parts.{ArePieces, IsPieceOf, Part, Says, is_text_kind, view_at}
 use Rattle.tl_patch_edit.specs.Kept.{KeepRawTexts}
@@ -57,12 +55,6 @@ names_are : (name : List ℕ) →
     (bytes_eq name (codes "svg") || (bytes_eq name (codes "math") || (bytes_eq name (codes "frameset") || (bytes_eq name (codes "template") || (bytes_eq name (codes "noscript") || (bytes_eq name (codes "select") || false)))))) ≡ is_unsure_name name
 names_are name = refl
 
-pub unsure_name : (name : List ℕ) →
-    (bytes_eq name (codes "svg") || bytes_eq name (codes "math") || bytes_eq name (codes "frameset") || bytes_eq name (codes "template") || bytes_eq name (codes "noscript") || bytes_eq name (codes "select")) ≡ is_unsure_name name
-unsure_name name =
-    six (bytes_eq name (codes "svg")) (bytes_eq name (codes "math")) (bytes_eq name (codes "frameset")) (bytes_eq name (codes "template")) (bytes_eq name (codes "noscript")) (bytes_eq name (codes "select"))
-    ∙ names_are name
-
 -- start tags
 
 named : (ts : List HtmlToken) (name : List ℕ) → IsStartTag ts → start_name ts ≡ Some name → begins_unsure ts ≡ is_unsure_name name
@@ -73,9 +65,6 @@ named (EndTag n ∷ ts) name s h = absurd s
 named (Character b ∷ ts) name s h = absurd s
 named (CommentToken n ∷ ts) name s h = absurd s
 named (DoctypeToken ∷ ts) name s h = absurd s
-
-pub tag_named : (bytes name : List ℕ) (ts : List HtmlToken) → IsTagName bytes name → IsStartTag ts → start_name ts ≡ Some name → begins_unsure ts ≡ is_unsure_name name
-tag_named bytes name ts n s h = named ts name s h
 
 not_characters : (ts : List HtmlToken) → are_characters ts ≡ true → begins_unsure ts ≡ false
 not_characters [] h = refl
@@ -110,20 +99,6 @@ not_begun kind.Nothing ts n h = ap begins_unsure h
 
 pub no_start : (x : Part) (p : Piece) → is_start_kind x.kind ≡ false → IsPieceOf x p → begins_unsure p.tokens ≡ false
 no_start x p n i = not_begun x.kind p.tokens n i.kind
-
-start_kind : (k : TokenKind) → is_start_kind k ≡ true → k ≡ kind.StartTag
-start_kind kind.StartTag h = refl
-start_kind kind.Text h = cc
-start_kind kind.EndTag h = cc
-start_kind kind.Comment h = cc
-start_kind kind.Doctype h = cc
-start_kind kind.Nothing h = cc
-
-pub is_start_piece : (x : Part) (p : Piece) → is_start_kind x.kind ≡ true → IsPieceOf x p → IsStartTag p.tokens
-is_start_piece x p n i = subst (λ (k : TokenKind). IsKind k p.tokens) (start_kind x.kind n) i.kind
-
-pub is_whole_piece : (x : Part) (p : Piece) → is_start_kind x.kind ≡ true → IsPieceOf x p → IsWhole x.mode x.bytes p.tokens
-is_whole_piece x p n i = subst (λ (k : TokenKind). Says k x.mode x.bytes p.tokens) (start_kind x.kind n) i.says
 
 -- raw texts
 

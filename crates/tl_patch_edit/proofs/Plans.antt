@@ -4,7 +4,7 @@ use Rattle.std.specs.Prelude.{option_map}
 use Rattle.tl_patch_spec.specs.Patches.{Alone, Append, Changed, Content, Dropped, Extent, Fill, Implied, NewContent, NewEndTag, Prepend, Put, PutAfter, PutBefore, Remove, RenameElement, ReplaceWith, Unclosed, Unwrap, Whole, asked, cut_out, may_be_renamed, put_at, put_instead}
 use Rattle.tl_patch_spec.specs.Splices.{Splice}
 use Rattle.tl_patch_spec.specs.TagChanges.{Rename}
-use Rattle.tl_patch_edit.specs.Asks.{ends_page, inner_end, inside_end, put_after, tags_asked, until_of}
+use Rattle.tl_patch_edit.specs.Asks.{ends_page, inner_end, inside_end, tags_asked, until_of}
 
 abbrev pub is_implied : Extent → Bool
 is_implied (Implied m) = true
@@ -48,11 +48,11 @@ before_is (Unclosed m) n c name = refl
 abbrev after_if : Bool → List (Splice Put) → Option (List (Splice Put))
 after_if ends splices = if ends then None else Some splices
 
-after_is : (e : Extent) (n : ℕ) (c : Content) (name : List ℕ) → ends_page e name ≡ false → asked (PutAfter c) n e name ≡ option_map (λ u. put_at u (put_after e name c) ∷ []) (until_of n e)
+after_is : (e : Extent) (n : ℕ) (c : Content) (name : List ℕ) → ends_page e name ≡ false → asked (PutAfter c) n e name ≡ option_map (λ u. put_at u (NewContent c ∷ []) ∷ []) (until_of n e)
 after_is Dropped n c name h = refl
 after_is Alone n c name h = refl
 after_is (Whole m) n c name h = ap (λ v. after_if v (put_at (suc m) (NewContent c ∷ []) ∷ [])) h
-after_is (Implied m) n c name h = ap (λ v. after_if v (put_at m (NewEndTag name ∷ NewContent c ∷ []) ∷ [])) h
+after_is (Implied m) n c name h = ap (λ v. after_if v (put_at m (NewContent c ∷ []) ∷ [])) h
 after_is (Unclosed m) n c name h = refl
 
 prepend_is : (e : Extent) (n : ℕ) (c : Content) (name : List ℕ) → asked (Prepend c) n e name ≡ option_map (λ m. put_at (suc n) (NewContent c ∷ []) ∷ []) (inside_end e)
@@ -93,12 +93,12 @@ appends e n m c name h = append_is e n c name ∙ ap (option_map (λ v. put_at v
 pub puts_before : (e : Extent) (n : ℕ) (c : Content) (name : List ℕ) → asked (PutBefore c) n e name ≡ Some (put_at n (NewContent c ∷ []) ∷ [])
 puts_before e n c name = before_is e n c name
 
-pub puts_behind : (e : Extent) (n : ℕ) (u : Option ℕ) (c : Content) (name : List ℕ) → ends_page e name ≡ false → u ≡ until_of n e → asked (PutAfter c) n e name ≡ option_map (λ v. put_at v (put_after e name c) ∷ []) u
-puts_behind e n u c name l h = after_is e n c name l ∙ ap (option_map (λ v. put_at v (put_after e name c) ∷ [])) (sym h)
+pub puts_behind : (e : Extent) (n : ℕ) (u : Option ℕ) (c : Content) (name : List ℕ) → ends_page e name ≡ false → u ≡ until_of n e → asked (PutAfter c) n e name ≡ option_map (λ v. put_at v (NewContent c ∷ []) ∷ []) u
+puts_behind e n u c name l h = after_is e n c name l ∙ ap (option_map (λ v. put_at v (NewContent c ∷ []) ∷ [])) (sym h)
 
 -- nothing can stand after an element that goes to the end of the page
 pub none_behind : (e : Extent) (n : ℕ) (c : Content) (name : List ℕ) → ends_page e name ≡ true → asked (PutAfter c) n e name ≡ None
-none_behind (Implied m) n c name h = ap (λ v. after_if v (put_at m (NewEndTag name ∷ NewContent c ∷ []) ∷ [])) h
+none_behind (Implied m) n c name h = ap (λ v. after_if v (put_at m (NewContent c ∷ []) ∷ [])) h
 none_behind Dropped n c name h = refl
 none_behind Alone n c name h = absurd (true≢false (sym h))
 none_behind (Whole m) n c name h = ap (λ v. after_if v (put_at (suc m) (NewContent c ∷ []) ∷ [])) h
@@ -108,21 +108,6 @@ none_behind (Unclosed m) n c name h = refl
 
 abbrev renamed_if : Bool → List (Splice Put) → Option (List (Splice Put))
 renamed_if may splices = if may then Some splices else None
-
-pub rename_implied : (n m : ℕ) (old new : List ℕ) → may_be_renamed old new ≡ true →
-    asked (RenameElement new) n (Implied m) old ≡ Some (put_instead n (suc n) (Changed (Rename new) ∷ []) ∷ put_at m (NewEndTag new ∷ []) ∷ [])
-rename_implied n m old new h =
-    ap (λ v. renamed_if v (put_instead n (suc n) (Changed (Rename new) ∷ []) ∷ put_at m (NewEndTag new ∷ []) ∷ [])) h
-
--- of an element whose end tag is not left out
-pub rename_is : (e : Extent) (n : ℕ) (old new : List ℕ) → may_be_renamed old new ≡ true → is_implied e ≡ false →
-    asked (RenameElement new) n e old ≡ tags_asked n e (Changed (Rename new) ∷ [])
-rename_is Dropped n old new h i = refl
-rename_is Alone n old new h i = ap (λ v. renamed_if v (put_instead n (suc n) (Changed (Rename new) ∷ []) ∷ [])) h
-rename_is (Whole m) n old new h i =
-    ap (λ v. renamed_if v (put_instead n (suc n) (Changed (Rename new) ∷ []) ∷ put_instead m (suc m) (Changed (Rename new) ∷ []) ∷ [])) h
-rename_is (Implied m) n old new h i = cc
-rename_is (Unclosed m) n old new h i = refl
 
 -- an element whose name can't be changed so
 pub rename_not : (e : Extent) (n : ℕ) (old new : List ℕ) → may_be_renamed old new ≡ false → asked (RenameElement new) n e old ≡ None

@@ -12,10 +12,9 @@ use Rattle.tl_patch_edit.specs.Asks.{GivePut, IsRenamedEnd, IsRenamedTag, IsText
 use Rattle.tl_patch_edit.specs.Inner.Parts.{Give, Part, Says, TellsTag, is_data}
 use Rattle.tl_patch_edit.specs.Sayings.{Tag, character, is_tag, said_by, sayings}
 use Rattle.tl_patch_edit.specs.Inner.Seams.{SameEdges}
-use Rattle.tl_patch_edit.proofs.Edges.{edges_both, end_tag_runs, nothing_edges, tag_edges, text_edges}
-use Rattle.tl_patch_edit.proofs.Said.{pieces_both}
+use Rattle.tl_patch_edit.proofs.Edges.{tag_edges, text_edges}
 use Rattle.tl_patch_edit.proofs.Sayings.{characters_other, kind_is_tag, plain, tag_kind_says, tag_kind_tells, tag_tells, text_no_tag}
-use Rattle.tl_patch_spec.specs.Patches.{Changed, Content, Markup, NewContent, NewEndTag, Text, content_pieces, end_tag_piece}
+use Rattle.tl_patch_spec.specs.Patches.{Changed, Markup, NewContent, NewEndTag, Text, content_pieces, end_tag_piece}
 use Rattle.tl_patch_spec.specs.TagNames.{IsNamed}
 use Rattle.tl_patch_spec.specs.TagChanges.{Rename, changed_token}
 use Rattle.tl_patch.specs.StartTags.{IsRenamed}
@@ -92,9 +91,6 @@ markup_put m place given parts d g f e = λ p i.
       subst (λ (xs : List Part). SameEdges xs (runs put)) (sym e) f,
     )
 
-pub nothing_put : (place : Part) (parts : List Part) → parts ≡ [] → GivePut [] place parts
-nothing_put place parts e = λ p i. ([], refl, subst (λ (xs : List Part). Give xs [] []) (sym e) (record { bytes = refl; say = refl }), nothing_edges parts e)
-
 tag_gives : (name : List ℕ) (part : Part) → part ≡ record { kind = kind.EndTag; mode = mode.Data; bytes = end_tag_bytes name } → IsWhole mode.Data (end_tag_bytes name) (EndTag name ∷ []) →
     Give (part ∷ []) (bytes_of (end_tag_piece name ∷ [])) (sayings (end_tag_piece name ∷ []))
 tag_gives name part e w =
@@ -106,20 +102,6 @@ tag_gives name part e w =
 end_tag_edges : (name : List ℕ) (part : Part) → part ≡ record { kind = kind.EndTag; mode = mode.Data; bytes = end_tag_bytes name } → SameEdges (part ∷ []) (end_tag_piece name ∷ [])
 end_tag_edges name part e =
     subst (λ (x : Part). SameEdges (x ∷ []) (end_tag_piece name ∷ [])) (sym e) (tag_edges kind.EndTag mode.Data (end_tag_bytes name) (end_tag_bytes name) data_state (EndTag name ∷ []) refl refl refl refl)
-
-pub tag_put : (name : List ℕ) (c : Content) (place part : Part) (content parts : List Part) → part ≡ record { kind = kind.EndTag; mode = mode.Data; bytes = end_tag_bytes name } →
-    IsWhole mode.Data (end_tag_bytes name) (EndTag name ∷ []) → GivePut (NewContent c ∷ []) place content → parts ≡ (part ∷ []) ++ content → GivePut (NewEndTag name ∷ NewContent c ∷ []) place parts
-tag_put name c place part content parts e w g h = λ p i.
-    let r = g p i in
-    let tag : List Piece = end_tag_piece name ∷ [] in
-    let put : List Piece = tag ++ r.0 in (
-      put,
-      (tag, r.0, refl, refl, r.1),
-      subst (λ (xs : List Part). Give xs (bytes_of put) (sayings put)) (sym h)
-          (pieces_both (part ∷ []) content tag r.0 (tag_gives name part e w) r.2),
-      subst (λ (qs : List Piece). SameEdges parts qs) (sym (end_tag_runs name (runs r.0)))
-          (subst (λ (xs : List Part). SameEdges xs (end_tag_piece name ∷ runs r.0)) (sym h) (edges_both (part ∷ []) content tag (runs r.0) (end_tag_edges name part e) r.3)),
-    )
 
 -- an end tag alone, and a tag with another name
 

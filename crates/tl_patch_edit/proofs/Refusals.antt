@@ -305,9 +305,6 @@ put_there place p put.Nothing i (inr (inr h)) = absurd h
 put_there place p (put.Content c) i (inl h) = absurd (true≢false h)
 put_there place p (put.Content c) i (inr (inl h)) = absurd (true≢false h)
 put_there place p (put.Content c) i (inr (inr h)) = record { put = NewContent (content_view c); among = (0, omega arith, refl); cannot = cannot_stand (content_view c) place.mode p.rest i.rest h }
-put_there place p (put.EndTagAndContent raw c) i (inl h) = record { put = NewEndTag (name_of raw.now); among = (0, omega arith, refl); cannot = h }
-put_there place p (put.EndTagAndContent raw c) i (inr (inl h)) = absurd (true≢false h)
-put_there place p (put.EndTagAndContent raw c) i (inr (inr h)) = record { put = NewContent (content_view c); among = (1, omega arith, refl); cannot = cannot_stand (content_view c) place.mode p.rest i.rest h }
 put_there place p (put.LeftOut raw) i (inl h) = record { put = NewEndTag (name_of raw.now); among = (0, omega arith, refl); cannot = h }
 put_there place p (put.LeftOut raw) i (inr (inl h)) = absurd (true≢false h)
 put_there place p (put.LeftOut raw) i (inr (inr h)) = absurd h

@@ -4,12 +4,11 @@ use Rattle.std.specs.List.{list_all}
 use Rattle.std.specs.Str.{bytes_eq}
 use Rattle.std.proofs.Math.Bool.{and-true}
 use Rattle.std.proofs.lemmas.Bool.{and_parts, cases_Bool}
-use Rattle.std.proofs.lemmas.List.{drop_all, get_or-map, length-map, map-append, take_all, take_more}
+use Rattle.std.proofs.lemmas.List.{drop_all, get_or-map, length-map, map-append, take_more}
 use Rattle.std.proofs.lemmas.Option.{slice_get_past}
 use Rattle.std.proofs.lemmas.Slice.Eq.{bytes_eq-Decides}
 use Rattle.tl_html_spec.specs.HtmlTokenizer.{Character, CommentToken, DoctypeToken, EndTag, HtmlToken, StartTag, is_white_space}
 use Rattle.tl_html_spec.specs.Pieces.{Piece, pieces, runs}
-use Rattle.tl_html_tokens.specs.Kinds.{IsStartTag}
 use Rattle.tl_html_tokens.specs.Tokens.{AreTokensOf}
 use Rattle.tl_html_tokens.specs.declared.token.Token.{Token}
 use Rattle.tl_patch_elements.specs.View.{element_view, elements_view}
@@ -69,43 +68,8 @@ other_way a b h = elim (cases_Bool (bytes_eq b a)) [
 pub not_tail_name : (name : List ℕ) → bytes_eq name body_name ≡ false → bytes_eq name html_name ≡ false → is_tail_name name ≡ false
 not_tail_name name h k = ap₂ (λ (v w : Bool). v || (w || false)) h k
 
-body_tag : IsTailPart part.BodyEnd (EndTag body_name ∷ [])
-body_tag = record { within = refl; first = refl; body = refl; html = refl }
-
 html_tag : IsTailPart part.HtmlEnd (EndTag html_name ∷ [])
 html_tag = record { within = refl; first = refl; body = refl; html = refl }
-
-pub body_named : (name : List ℕ) → bytes_eq name body_name ≡ true → IsTailPart part.BodyEnd (EndTag name ∷ [])
-body_named name h = subst (λ n. IsTailPart part.BodyEnd (EndTag n ∷ [])) (sym (same_name name body_name h)) body_tag
-
-pub html_named : (name : List ℕ) → bytes_eq name html_name ≡ true → IsTailPart part.HtmlEnd (EndTag name ∷ [])
-html_named name h = subst (λ n. IsTailPart part.HtmlEnd (EndTag n ∷ [])) (sym (same_name name html_name h)) html_tag
-
-pub other_named : (name : List ℕ) → bytes_eq name body_name ≡ false → bytes_eq name html_name ≡ false → IsTailPart part.Other (EndTag name ∷ [])
-other_named name h k = record {
-  within = ap (λ (v : Bool). v && true) (not_tail_name name h k);
-  first = not_tail_name name h k;
-  body = other_way name body_name h;
-  html = other_way name html_name k;
-}
-
-pub nothing_there : (ts : List HtmlToken) → ts ≡ [] → IsTailPart part.Between ts
-nothing_there ts h = subst (IsTailPart part.Between) (sym h) (record { within = refl; first = refl; body = refl; html = refl })
-
-pub comment_there : (ts : List HtmlToken) (b : List ℕ) → ts ≡ CommentToken b ∷ [] → IsTailPart part.Between ts
-comment_there ts b h = subst (IsTailPart part.Between) (sym h) (record { within = refl; first = refl; body = refl; html = refl })
-
-pub doctype_there : (ts : List HtmlToken) → ts ≡ DoctypeToken ∷ [] → IsTailPart part.Other ts
-doctype_there ts h = subst (IsTailPart part.Other) (sym h) (record { within = refl; first = refl; body = refl; html = refl })
-
-pub start_there : (ts : List HtmlToken) → IsStartTag ts → IsTailPart part.Other ts
-start_there (StartTag n a v ∷ []) h = record { within = refl; first = refl; body = refl; html = refl }
-start_there [] h = absurd h
-start_there (StartTag n a v ∷ t ∷ ts) h = absurd h
-start_there (EndTag n ∷ ts) h = absurd h
-start_there (Character b ∷ ts) h = absurd h
-start_there (CommentToken n ∷ ts) h = absurd h
-start_there (DoctypeToken ∷ ts) h = absurd h
 
 -- one piece more, before those that are in the tail
 
@@ -256,9 +220,6 @@ ends_there page tokens left d x tail h o t f i =
     let s : Stands (view_at page (get_or tokens k d)) ps k = part_stands page tokens k d h (omega (arith, o, within)) in
     before_one ps k s.piece x tail s.stands (f s.piece s.is) i (subst (λ n. list_all is_tail_piece (drop n ps) ≡ true) next t.all) (subst (λ n. IsTailFrom n ps tail) next t.found)
 
-pub begins_page : (page : List ℕ) (tokens : List Token) (left : ℕ) (tail : Tail) → left ≤ 0 → IsTailSoFar page tokens left tail → IsTailFrom 0 (runs (pieces page)) tail
-begins_page page tokens left tail o t = subst (λ n. IsTailFrom n (runs (pieces page)) tail) (let e : left ≡ 0 = omega (arith, o) in e) t.found
-
 -- where elements end in it
 
 pub html_ends : (ps : List Piece) (name : List ℕ) (tail : Tail) → bytes_eq name html_name ≡ true → IsTailFrom 0 ps tail → IsEndFor ps name tail.html
@@ -361,9 +322,6 @@ moved ps e = record {
 pub stays : (ps : List Piece) (e : Element) (len : ℕ) → length ps ≡ len → (e.end == len) ≡ false → e ≡ up_to_tail ps e
 stays ps e len l h = sym (ap (λ (v : Bool). if v then moved ps e else e) (ap (λ n. e.end == n) l ∙ h))
 
-pub moves_there : (ps : List Piece) (e : Element) → (e.end == length ps) ≡ true → up_to_tail ps e ≡ moved ps e
-moves_there ps e h = ap (λ (v : Bool). if v then moved ps e else e) h
-
 pub moves : (ps : List Piece) (e : Element) (len : ℕ) (end : End) → length ps ≡ len → (e.end == len) ≡ true → IsEndFor ps e.name end →
     record { name = e.name; start = e.start; end = end.place; has_end_tag = end.is_own } ≡ up_to_tail ps e
 moves ps e len end l h i =
@@ -379,7 +337,3 @@ one_more ps es k d new old now l v p h =
     ∙ sym (map-append f (elements_view (take k es)) (element_view (get_or es k d) ∷ []))
     ∙ ap (map f) (sym (map-append element_view (take k es) (get_or es k d ∷ [])))
     ∙ ap (λ (xs : List CodeElement). map f (elements_view xs)) (sym (take_more es k d l))
-
-pub all_of_them : (ps : List Piece) (es : List CodeElement) (k : ℕ) (now : List Element) → length es ≤ k → now ≡ map (up_to_tail ps) (elements_view (take k es)) →
-    now ≡ map (up_to_tail ps) (elements_view es)
-all_of_them ps es k now l h = h ∙ ap (λ (xs : List CodeElement). map (up_to_tail ps) (elements_view xs)) (take_all k es l)

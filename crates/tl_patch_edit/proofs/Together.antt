@@ -6,15 +6,15 @@ use Rattle.std.specs.Option.{option_to_list}
 use Rattle.std.proofs.lemmas.Bool.{cases_Bool, eqb-false, eqb-true, ltb-false, ltb-true, ne_eqb}
 use lib.Dec.{ltb}
 use Rattle.std.proofs.lemmas.List.{drop_more, get_or-set_other, get_or-set_same, length-set, map-append}
-use Rattle.std.proofs.lemmas.List.Elements.{All-cons, All-get_or}
+use Rattle.std.proofs.lemmas.List.Elements.{All-cons}
 use Rattle.std.proofs.lemmas.List.Sorted.{IsPermutation-map}
 use Rattle.tl_html_spec.specs.HtmlTokenizer.{without_mark}
 use Rattle.tl_html_spec.specs.Pieces.{Piece, pieces, placed, runs}
 use Rattle.tl_html_tokens.specs.Tokens.{AreTokensOf, mark_len}
 use Rattle.tl_html_tokens.specs.declared.token.Token.{Token}
 use Rattle.tl_patch_spec.specs.Elements.{Element}
-use Rattle.tl_patch_spec.specs.LeftOpen.{LeftOpen, open_after, places_closed}
-use Rattle.tl_patch_spec.specs.Patches.{AreAskedOne, Dropped, Extent, Patch, Put, asked_of, extent_in, extent_of}
+use Rattle.tl_patch_spec.specs.LeftOpen.{LeftOpen, closings, open_after}
+use Rattle.tl_patch_spec.specs.Patches.{AreAskedOne, Extent, Patch, Put, asked_of, extent_in, extent_of}
 use Rattle.tl_patch_spec.specs.Splices.{Splice, are_ordered}
 use Rattle.tl_patch_spec.specs.Together.{AreAskedTogether, Asked, Gone, Turn, ask_of, asked_at, asked_each, asked_from, at_each, end_tags, gone_after, is_gone, piece_extent, turn_of, with_asks}
 use Rattle.tl_patch_edit.specs.Asks.{ask_view, asks_view, placed_at, placed_view, planned_view}
@@ -22,7 +22,7 @@ use Rattle.tl_patch_edit.specs.Found.{IsSplicedPage, IsSplicedPageOf, IsStartAt}
 use Rattle.tl_patch_edit.specs.Inner.Parts.{ArePieces, Part}
 use Rattle.tl_patch_edit.specs.Seams.{AreSeparated, AreSeparatedFrom}
 use Rattle.tl_patch_edit.proofs.Texts.{page_texts}
-use Rattle.tl_patch_edit.specs.Several.{AreDropped, AreEdited, AreExtents, AreInTurn, AreMeantAt, AreSorted, BeginAt, IsMeantOfPage, asked_one, asked_view, stands_twice}
+use Rattle.tl_patch_edit.specs.Several.{AreEdited, AreExtents, AreInTurn, AreMeantAt, AreSorted, BeginAt, IsMeantOfPage, asked_one, asked_view, stands_twice}
 use Rattle.tl_patch_edit.specs.View.{extent_view, meant_view, patch_view, patches_view, turn_view}
 use Rattle.tl_patch_elements.specs.View.{element_view, elements_view}
 use Rattle.tl_patch_elements.specs.declared.found.Element.{Element as CodeElement}
@@ -86,9 +86,6 @@ meant_given tokens (p ∷ patches) from (m ∷ meant) h =
     ap₂ (λ (x : ℕ × Patch) (xs : List (ℕ × Patch)). x ∷ xs) (ap₂ (λ (n : ℕ) (q : ElementPatch). (n, patch_view q)) (h.1).start h.2) (meant_given tokens patches m.start.number meant h.3)
 
 -- how far elements go
-
-pub none_dropped : (extents : List CodeExtent) → AreDropped extents → AreExtents [] extents
-none_dropped extents h = λ n d l. All-get_or (λ (e : CodeExtent). extent_view e ≡ Dropped) extents n d l h
 
 pub extent_at : (e : Element) (es : List Element) (n : ℕ) (v : Bool) → (e.start == n) ≡ v → extent_in n (e ∷ es) ≡ (if v then extent_of e else extent_in n es)
 extent_at e es n v h = ap (λ (w : Bool). if w then extent_of e else extent_in n es) h
@@ -161,10 +158,10 @@ pub placed_asked : (s : Start) (t : CodeTurn) (p : Planned) → asked_view (plac
 placed_asked s t p = ap (λ (xs : List Asked). asked_one (placed_at s t p.first) ∷ xs) (second_view s t p.second)
 
 counts : (ps : List Piece) (at : ℕ) (gone : Gone) (left : LeftOpen) (q : ℕ × Patch) (qs : List (ℕ × Patch)) (asks : List (Splice Put)) → is_gone gone q.0 ≡ false → asked_of ps q.0 q.1 ≡ Some asks →
-    asked_from ps at gone left (q ∷ qs) ≡ with_asks (turn_of q.1 q.0 at) asks (end_tags at left (places_closed q.1 q.0 (piece_extent ps q.0)))
+    asked_from ps at gone left (q ∷ qs) ≡ with_asks (turn_of q.1 q.0 at) asks (end_tags at left (closings q.1 q.0 (piece_extent ps q.0) left))
     (asked_from ps (suc at) (gone_after q.1 q.0 asks gone) (open_after q.1 q.0 (piece_extent ps q.0) left) qs)
 counts ps at gone left q qs asks l a =
-    let tags : List Asked = end_tags at left (places_closed q.1 q.0 (piece_extent ps q.0)) in
+    let tags : List Asked = end_tags at left (closings q.1 q.0 (piece_extent ps q.0) left) in
     let next : LeftOpen = open_after q.1 q.0 (piece_extent ps q.0) left in
     ap (λ (v : Bool). if v then asked_from ps (suc at) gone left qs else elim (asked_of ps q.0 q.1) as (λ _. Option (List Asked)) [
       | None ↦ None
@@ -179,7 +176,7 @@ skipped : (ps : List Piece) (at : ℕ) (gone : Gone) (left : LeftOpen) (q : ℕ 
 skipped ps at gone left q qs l =
     ap (λ (v : Bool). if v then asked_from ps (suc at) gone left qs else elim (asked_of ps q.0 q.1) as (λ _. Option (List Asked)) [
       | None ↦ None
-      | Some as2 ↦ with_asks (turn_of q.1 q.0 at) as2 (end_tags at left (places_closed q.1 q.0 (piece_extent ps q.0)))
+      | Some as2 ↦ with_asks (turn_of q.1 q.0 at) as2 (end_tags at left (closings q.1 q.0 (piece_extent ps q.0) left))
           (asked_from ps (suc at) (gone_after q.1 q.0 as2 gone) (open_after q.1 q.0 (piece_extent ps q.0) left) qs)
     ]) l
 
@@ -197,7 +194,7 @@ pub asks_more : (ps : List Piece) (meant : List MeantPatch) (at : ℕ) (gone aft
     (all : Option (List Asked)) →
     at < length meant → m ≡ get_or meant at d → is_gone gone m.start.number ≡ false → asked_of ps m.start.number (patch_view m.patch) ≡ Some (planned_view planned) →
     extent ≡ piece_extent ps m.start.number → now ≡ old ++ more →
-    asked_view more ≡ map (asked_at (turn_of (patch_view m.patch) m.start.number at)) (planned_view planned) ++ end_tags at left (places_closed (patch_view m.patch) m.start.number extent) →
+    asked_view more ≡ map (asked_at (turn_of (patch_view m.patch) m.start.number at)) (planned_view planned) ++ end_tags at left (closings (patch_view m.patch) m.start.number extent left) →
     next_left ≡ open_after (patch_view m.patch) m.start.number extent left → after ≡ gone_after (patch_view m.patch) m.start.number (planned_view planned) gone →
     all ≡ before (asked_view old) (AskedFrom ps at gone left (drop at meant)) → all ≡ before (asked_view now) (AskedFrom ps (at + 1) after next_left (drop (at + 1) meant))
 asks_more ps meant at gone after left next_left extent m d planned old now more all l is o a x e w f k h =
@@ -205,11 +202,11 @@ asks_more ps meant at gone after left next_left extent m d planned old now more 
     let asks : List (Splice Put) = planned_view planned in
     let qs : List (ℕ × Patch) = meant_view (drop (at + 1) meant) in
     let turn : Turn = turn_of q.1 q.0 at in
-    let tags : List Asked = end_tags at left (places_closed q.1 q.0 (piece_extent ps q.0)) in
+    let tags : List Asked = end_tags at left (closings q.1 q.0 (piece_extent ps q.0) left) in
     let own : List Asked = map (asked_at turn) asks ++ tags in
     let viewed : asked_view now ≡ asked_view old ++ own =
     ap asked_view e ∙ map-append asked_one old more
-    ∙ ap (λ (xs : List Asked). asked_view old ++ xs) (w ∙ ap (λ (y : Extent). map (asked_at turn) asks ++ end_tags at left (places_closed q.1 q.0 y)) x) in
+    ∙ ap (λ (xs : List Asked). asked_view old ++ xs) (w ∙ ap (λ (y : Extent). map (asked_at turn) asks ++ end_tags at left (closings q.1 q.0 y left)) x) in
     let opened : next_left ≡ open_after q.1 q.0 (piece_extent ps q.0) left = f ∙ ap (λ (y : Extent). open_after q.1 q.0 y left) x in
     let these : meant_view (drop at meant) ≡ q ∷ qs = view_drop meant at d l ∙ ap (λ (y : MeantPatch). numbered y ∷ qs) (sym is) in
     let next : suc at ≡ at + 1 = omega arith in
@@ -231,11 +228,6 @@ asks_same ps meant at gone left m d old all l is o h =
     h ∙ ap (λ (ns : List (ℕ × Patch)). before old (asked_from ps at gone left ns)) these
     ∙ ap (before old) (skipped ps at gone left (numbered m) qs o)
     ∙ ap (λ n. before old (asked_from ps n gone left qs)) next
-
-pub asks_end : (ps : List Piece) (meant : List MeantPatch) (at : ℕ) (gone : Gone) (left : LeftOpen) (old : List Asked) (all : Option (List Asked)) → drop at meant ≡ [] →
-    all ≡ before old (AskedFrom ps at gone left (drop at meant)) → all ≡ Some old
-asks_end ps meant at gone left old all e h =
-    h ∙ ap (λ (xs : List MeantPatch). before old (AskedFrom ps at gone left xs)) e ∙ ap (λ (xs : List Asked). Some xs) (append-nil old)
 
 -- in order
 

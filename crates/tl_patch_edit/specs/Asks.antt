@@ -35,8 +35,6 @@ use Rattle.tl_patch_spec.specs.TagChanges.{Rename, changed_token}
 abbrev pub puts_view : CodePut → List Put
 puts_view put.Nothing = []
 puts_view (put.Content content) = NewContent (content_view content) ∷ []
-puts_view (put.EndTagAndContent raw content) =
-    NewEndTag (name_of raw.now) ∷ NewContent (content_view content) ∷ []
 puts_view (put.LeftOut raw) = NewEndTag (name_of raw.now) ∷ []
 puts_view (put.EndTag name) = NewEndTag name.now ∷ []
 puts_view (put.Renamed name) = Changed (Rename name.now) ∷ []
@@ -101,11 +99,6 @@ ends_page (Whole m) name = is_page_name name
 ends_page (Implied m) name = is_page_name name
 ends_page _ name = false
 
--- an end tag is put in where one is left out
-abbrev pub put_after : Extent → List ℕ → Content → List Put
-put_after (Implied m) name c = NewEndTag name ∷ NewContent c ∷ []
-put_after _ name c = NewContent c ∷ []
-
 -- the same in the place of the start tag, and of its own end tag
 abbrev pub tags_asked : ℕ → Extent → List Put → Option (List (Splice Put))
 tags_asked n Alone put = Some (put_instead n (suc n) put ∷ [])
@@ -121,7 +114,6 @@ text_of (Markup markup) = []
 -- the text that is put, if one is
 abbrev pub text_put : CodePut → List ℕ
 text_put (put.Content content) = text_of (content_view content)
-text_put (put.EndTagAndContent raw content) = text_of (content_view content)
 text_put _ = []
 
 -- an end tag by itself
@@ -151,7 +143,6 @@ pub record IsRenamedTag (name : List ℕ) (place : Part) (new : List ℕ) : Type
 abbrev pub IsTagFor : CodePut → Part → List ℕ → Type 0
 IsTagFor put.Nothing place tag = ⊤
 IsTagFor (put.Content content) place tag = ⊤
-IsTagFor (put.EndTagAndContent raw content) place tag = IsEndTagOf (name_of raw.now) tag
 IsTagFor (put.LeftOut raw) place tag = IsEndTagOf (name_of raw.now) tag
 IsTagFor (put.EndTag name) place tag = IsEndTagOf name.now tag
 IsTagFor (put.Renamed name) place tag = IsRenamedTag name.now place tag

@@ -3,7 +3,7 @@ use Rattle.std.specs.Prelude.{◌≡◌, ℕ, zero, suc, List, [], ◌∷◌, �
 use Rattle.std.specs.List.{All}
 use Rattle.tl_html_parts.specs.Parts.{name_of}
 use Rattle.tl_patch_spec.specs.Elements.{OpenElement}
-use Rattle.tl_patch_spec.specs.LeftOpen.{LeftOpen, closed_all, open_after, places_closed}
+use Rattle.tl_patch_spec.specs.LeftOpen.{Closing, ElementAt, LeftOpen, closed_all, closings, open_after}
 use Rattle.tl_patch_spec.specs.Patches.{Extent}
 use Rattle.tl_patch_spec.specs.Together.{asked_at, end_tags, turn_of}
 use Rattle.tl_patch_edit.specs.Asks.{planned_view}
@@ -14,6 +14,8 @@ use Rattle.tl_patch_edit.specs.declared.ask.PlacedAsk.{PlacedAsk}
 use Rattle.tl_patch_edit.specs.declared.ask.Planned.{Planned}
 use Rattle.tl_patch_edit.specs.declared.ask.Put.TheVariants as put
 use Rattle.tl_patch_edit.specs.declared.ask.Start.{Start}
+use Rattle.tl_patch_edit.specs.declared.left_open.Closing.{Closing as CodeClosing}
+use Rattle.tl_patch_edit.specs.declared.left_open.LeftOpen.{LeftOpen as CodeLeft}
 use Rattle.tl_patch_edit.specs.declared.left_open.OpenElement.{OpenElement as CodeOpen}
 
 abbrev pub one_view : CodeOpen → OpenElement
@@ -22,13 +24,23 @@ one_view o = (name_of o.name.now, o.start)
 abbrev pub open_view : Option CodeOpen → Option OpenElement
 open_view o = option_map one_view o
 
-abbrev pub left_view : List (Option CodeOpen) → LeftOpen
-left_view left = map open_view left
+abbrev pub all_view : List (Option CodeOpen) → ElementAt
+all_view left = map open_view left
+
+abbrev pub left_view : CodeLeft → LeftOpen
+left_view left = record {
+  before = all_view left.before.items;
+  inside = all_view left.inside.items;
+  own = all_view left.own.items;
+}
+
+abbrev pub closing_view : CodeClosing → Closing
+closing_view c = record { place = c.place; of = one_view c.of }
 
 abbrev pub AreNone : List (Option CodeOpen) → Type 0
 AreNone left = All (λ (o : Option CodeOpen). o ≡ None) left
 
--- what is left open before the token of a number
+-- the element of the token of a number
 abbrev pub open_of : List (Option CodeOpen) → ℕ → Option CodeOpen
 open_of [] n = None
 open_of (o ∷ left) zero = o
@@ -48,27 +60,35 @@ end_tag_asks start at place (Some o) = record {
   ask = record { from = place; until = place; put = put.LeftOut o.name };
 } ∷ []
 
--- asks with the end tags that a patch puts in before its tags, and what is left open then
-pub record ArePutIn (m : MeantPatch) (at : ℕ) (extent : Extent) (left : List (Option CodeOpen))
-    (asks : List PlacedAsk) (new_left : List (Option CodeOpen)) (new : List PlacedAsk) :
-    Type 0 where
+-- of an element that gets its end tag, if it has got none
+abbrev pub closing_asks : Start → ℕ → Option CodeClosing → CodeLeft → List PlacedAsk
+closing_asks start at None left = []
+closing_asks start at (Some c) left =
+    end_tag_asks start at c.place (open_of left.own.items (c.of).start)
+
+-- asks with the end tags that a patch puts in, and what is left open then
+pub record ArePutIn (m : MeantPatch) (at : ℕ) (extent : Extent) (left : CodeLeft)
+    (asks : List PlacedAsk) (new_left : CodeLeft) (new : List PlacedAsk) : Type 0 where
   pub tags : List PlacedAsk
   pub is : new ≡ asks ++ tags
   pub asked : asked_view tags
-      ≡ end_tags at (left_view left) (places_closed (patch_view m.patch) m.start.number extent)
+      ≡ end_tags at (left_view left)
+      (closings (patch_view m.patch) m.start.number extent (left_view left))
   pub of : All (IsOf m.start at) tags
   pub remains : left_view new_left
-      ≡ closed_all (left_view left) (places_closed (patch_view m.patch) m.start.number extent)
+      ≡ closed_all (left_view left)
+      (closings (patch_view m.patch) m.start.number extent (left_view left))
 
 -- asks with those of a patch, and with these end tags
 pub record ArePushed (m : MeantPatch) (at : ℕ) (extent : Extent) (planned : Planned)
-    (left : List (Option CodeOpen)) (asks : List PlacedAsk)
-    (new_left : List (Option CodeOpen)) (new : List PlacedAsk) : Type 0 where
+    (left : CodeLeft) (asks : List PlacedAsk) (new_left : CodeLeft) (new : List PlacedAsk) :
+    Type 0 where
   pub more : List PlacedAsk
   pub is : new ≡ asks ++ more
   pub asked : asked_view more
       ≡ map (asked_at (turn_of (patch_view m.patch) m.start.number at)) (planned_view planned)
-      ++ end_tags at (left_view left) (places_closed (patch_view m.patch) m.start.number extent)
+      ++ end_tags at (left_view left)
+      (closings (patch_view m.patch) m.start.number extent (left_view left))
   pub of : All (IsOf m.start at) more
   pub remains : left_view new_left
       ≡ open_after (patch_view m.patch) m.start.number extent (left_view left)

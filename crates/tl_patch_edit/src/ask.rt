@@ -76,13 +76,12 @@ pub(crate) struct MeantPatch<'n> {
     pub(crate) patch: ElementPatch<'n>,
 }
 
-// What is put: nothing, a content, a content after an end tag of a name as it stands in a start
-// tag, such an end tag alone, an end tag of a name, or the tag that stood there with another name.
+// What is put: nothing, a content, an end tag of a name as it stands in a start tag, an end tag of
+// a name, or the tag that stood there with another name.
 #[derive(Clone, Copy)]
 pub(crate) enum Put<'n> {
     Nothing,
     Content { content: Content<'n> },
-    EndTagAndContent { raw: &'n [u8], content: Content<'n> },
     LeftOut { raw: &'n [u8] },
     EndTag { name: &'n [u8] },
     Renamed { name: &'n [u8] },

@@ -2,7 +2,7 @@
 ghost use Rattle.std.specs.Prelude.{◌≡◌, ℕ, List, IfOk, None, Some, option_map, suc, true};
 ghost use Rattle.tl_html_parts.specs.Parts.{name_of};
 ghost use Rattle.tl_patch_spec.specs.Patches.{Append, Fill, Prepend, PutAfter, PutBefore, Remove, RenameElement, ReplaceWith, Unwrap, asked, is_page_name, may_be_renamed};
-ghost use Rattle.tl_patch_edit.specs.Asks.{ends_page, planned_view, put_after, puts_view, tags_asked};
+ghost use Rattle.tl_patch_edit.specs.Asks.{ends_page, planned_view, puts_view, tags_asked};
 ghost use Rattle.tl_patch_edit.specs.declared.ask.Put.TheVariants.{EndTag, Renamed};
 ghost use Rattle.tl_patch_edit.specs.View.{content_view, extent_view, patch_view};
 
@@ -103,18 +103,7 @@ fn put_before<'n>(number: usize, extent: Extent, content: Content<'n>) -> Planne
     one(number, number, Put::Content { content })
 }
 
-// An end tag is put in where one is left out.
-fn put_after<'n>(extent: Extent, raw: &'n [u8], content: Content<'n>) -> Put<'n>
-    ensures { puts_view result
-        ≡ put_after (extent_view extent) (name_of raw.now) (content_view content.entry) }
-{
-    match extent {
-        Extent::Implied { .. } => Put::EndTagAndContent { raw, content },
-        _ => Put::Content { content },
-    }
-}
-
-fn is_page(alloc: Global, raw: &[u8]) -> Result<bool, AllocError>
+pub(crate) fn is_page(alloc: Global, raw: &[u8]) -> Result<bool, AllocError>
     ensures { IfOk result (λ is. is ≡ is_page_name (name_of raw.now)) }
 {
     let name = lower_name(alloc, raw)?;
@@ -150,7 +139,7 @@ fn put_behind<'n>(
     let Some(until) = until_of(number, extent)? else {
         return Ok(None);
     };
-    Ok(Some(one(until, until, put_after(extent, raw, content))))
+    Ok(Some(one(until, until, Put::Content { content })))
 }
 
 // The same in the place of the start tag, and of its own end tag.

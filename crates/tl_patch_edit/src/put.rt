@@ -16,7 +16,7 @@ ghost use Rattle.tl_patch_edit.specs.View.{content_view};
 ghost use Rattle.tl_patch_spec.specs.Markup.{text_markup};
 
 use crate::ask::{Content, Put};
-use crate::part::{Part, copy, parts_of, push};
+use crate::part::{Part, parts_of, push};
 use crate::ready::has_mark;
 use std::alloc::{AllocError, Global};
 use tl_html_parts::characters;
@@ -176,39 +176,10 @@ pub(crate) fn put_parts<'p>(
     match put {
         Put::Nothing => Ok(Some(Vec::new(alloc))),
         Put::Content { content } => content_parts(alloc, place, content, escaped),
-        Put::EndTagAndContent { raw, content } => {
-            tag_and_content(alloc, place, content, escaped, raw, tag)
-        }
         Put::LeftOut { raw } => left_out(alloc, place, raw, tag),
         Put::EndTag { name } => end_tag_alone(alloc, place, name, tag),
         Put::Renamed { name } => renamed_tag(alloc, place, name, tag),
     }
-}
-
-// The content after an end tag.
-fn tag_and_content<'p>(
-    alloc: Global,
-    place: Part<'p>,
-    content: Content<'p>,
-    escaped: &'p [u8],
-    raw: &[u8],
-    tag: &'p [u8],
-) -> Result<Option<Vec<Part<'p>>>, AllocError>
-    requires escaped { escaped.now ≡ text_markup (text_of (content_view content)) }
-    requires tag { IsEndTagOf (name_of raw.now) tag.now }
-    ensures parts { IfOk result (λ found. IfSome found (λ parts.
-        GivePut (NewEndTag (name_of raw.now) ∷ NewContent (content_view content.entry) ∷ [])
-        (part_view place.entry) (parts_view parts.items))) }
-    ensures none { IfOk result (λ found.
-        IfNone found (CannotStandIn place.entry.mode (content_view content.entry))) }
-{
-    let Some(found) = content_parts(alloc, place, content, escaped)? else {
-        return Ok(None);
-    };
-    let mut parts = Vec::new(alloc);
-    push(end_tag_part(tag), &mut parts)?;
-    copy(found.as_slice(), &mut parts)?;
-    Ok(Some(parts))
 }
 
 // An end tag that is left out.

@@ -208,7 +208,6 @@ fn is_markup_put(put: Put<'_>) -> bool
 {
     match put {
         Put::Content { content } => is_markup(text_of(content)),
-        Put::EndTagAndContent { content, .. } => is_markup(text_of(content)),
         _ => false,
     }
 }

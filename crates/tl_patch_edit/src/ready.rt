@@ -30,7 +30,6 @@ pub(crate) fn escaped_for(alloc: Global, put: Put<'_>) -> Result<Vec<u8>, AllocE
 {
     match put {
         Put::Content { content } => escaped_text(alloc, content),
-        Put::EndTagAndContent { content, .. } => escaped_text(alloc, content),
         _ => Ok(Vec::new(alloc)),
     }
 }

@@ -4,7 +4,7 @@ ghost use Rattle.std.specs.List.{All};
 ghost use Rattle.std.specs.List.Sorted.{IsPermutation};
 ghost use Rattle.tl_patch_spec.specs.Patches.{asked_of};
 ghost use Rattle.tl_patch_spec.specs.Tail.{elements_up_to_tail};
-ghost use Rattle.tl_patch_spec.specs.LeftOpen.{left_open};
+ghost use Rattle.tl_patch_spec.specs.LeftOpen.{left_open, without_ended};
 ghost use Rattle.tl_patch_spec.specs.Together.{asked_each, at_each, depth_of, gone_after, is_gone, rank_of, turn_of};
 ghost use Rattle.tl_patch_edit.specs.Open.{ArePushed, left_view};
 ghost use Rattle.tl_patch_edit.specs.Asks.{planned_view};
@@ -20,7 +20,7 @@ use crate::ask::{ElementPatch, Extent, Gone, MeantPatch, PlacedAsk, PlacedPatch,
 use crate::edit::{meant_start, planned_for, push_asks, spliced_page};
 use crate::error::EditError;
 use crate::extent::extents_of;
-use crate::left_open::{OpenElement, end_own, left_open, push_end_tags};
+use crate::left_open::{LeftOpen, left_open, push_end_tags, without_ended};
 use crate::part::parts_of;
 use crate::raw_text::refuse_misread;
 use crate::tail::elements_up_to_tail;
@@ -143,16 +143,15 @@ fn push_all<'n>(
     at: usize,
     extent: Extent,
     planned: Planned<'n>,
-    left: &mut Vec<Option<OpenElement<'n>>>,
+    left: &mut LeftOpen<'n>,
     out: &mut Vec<PlacedAsk<'n>>,
 ) -> Result<(), AllocError>
-    ensures { OnOk result (ArePushed one.entry at (extent_view extent) planned.entry left.old.items
-        out.old.items left.new.items out.new.items) }
+    ensures { OnOk result (ArePushed one.entry at (extent_view extent) planned.entry left.old
+        out.old.items left.new out.new.items) }
 {
     let turn = turn_of(one.patch, one.start.number, at);
     push_asks(one.start, turn, planned, out)?;
     push_end_tags(one, at, extent, left, out)?;
-    end_own(one.patch, one.start.number, extent, left);
     Ok(())
 }
 
@@ -162,12 +161,13 @@ fn asks_of<'n>(
     page: &'n [u8],
     meant: &[MeantPatch<'n>],
     extents: &[Extent],
-    all_left: Vec<Option<OpenElement<'n>>>,
+    all_left: LeftOpen<'n>,
 ) -> Result<Vec<PlacedAsk<'n>>, EditError>
     requires meant { All (IsMeantOfPage page.now) meant.now }
     requires extents { AreExtents (elements_up_to_tail (pieces_in page.now)) extents.now }
     requires within { length (pieces_in page.now) ≤ length extents.now }
-    requires left { left_view all_left.items ≡ left_open (pieces_in page.now) }
+    requires left { left_view all_left
+        ≡ without_ended (meant_view meant.now) (left_open (pieces_in page.now)) }
     ensures asks { IfOk result (λ asks.
         asked_each (pieces_in page.now) (meant_view meant.now) ≡ Some (asked_view asks.items)) }
     ensures planned { IfOk result (λ asks. All (IsPlanned meant.now) asks.items) }
@@ -211,18 +211,20 @@ fn sorted_asks<'n>(
     page: &'n [u8],
     meant: &[MeantPatch<'n>],
     extents: &[Extent],
-    all_left: Vec<Option<OpenElement<'n>>>,
+    all_left: LeftOpen<'n>,
 ) -> Result<Vec<PlacedAsk<'n>>, EditError>
     requires meant { All (IsMeantOfPage page.now) meant.now }
     requires extents { AreExtents (elements_up_to_tail (pieces_in page.now)) extents.now }
     requires within { length (pieces_in page.now) ≤ length extents.now }
-    requires left { left_view all_left.items ≡ left_open (pieces_in page.now) }
+    requires left { left_view all_left ≡ left_open (pieces_in page.now) }
     ensures sorted { IfOk result (λ asks.
         AreSorted (pieces_in page.now) (meant_view meant.now) asks.items) }
     ensures planned { IfOk result (λ asks. All (IsPlanned meant.now) asks.items) }
     ensures error { IfErr result (IsAsksError page.now meant.now) }
 {
-    let mut asks = asks_of(alloc, page, meant, extents, all_left)?;
+    let mut left = all_left;
+    without_ended(meant, &mut left);
+    let mut asks = asks_of(alloc, page, meant, extents, left)?;
     sort_asks(&mut asks)?;
     Ok(asks)
 }

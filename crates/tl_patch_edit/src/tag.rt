@@ -101,7 +101,6 @@ fn tag_for(alloc: Global, place: Part<'_>, put: Put<'_>) -> Result<Option<Vec<u8
     match put {
         Put::Nothing => Ok(Some(Vec::new(alloc))),
         Put::Content { .. } => Ok(Some(Vec::new(alloc))),
-        Put::EndTagAndContent { raw, .. } => lower_end_tag(alloc, raw),
         Put::LeftOut { raw } => lower_end_tag(alloc, raw),
         Put::EndTag { name } => end_tag(alloc, name),
         Put::Renamed { name } => renamed_tag(alloc, place, name),
@@ -121,7 +120,6 @@ fn has_name(alloc: Global, put: Put<'_>) -> Result<bool, AllocError>
     ensures { IfOk result (λ has. has ≡ has_name put.entry) }
 {
     match put {
-        Put::EndTagAndContent { raw, .. } => is_lower_name(alloc, raw),
         Put::LeftOut { raw } => is_lower_name(alloc, raw),
         Put::EndTag { name } => Ok(is_name(name)),
         Put::Renamed { name } => Ok(is_name(name)),

@@ -9,12 +9,6 @@ use Rattle.tl_patch_spec.specs.Elements.{PlacedToken, at_piece, tokens_at}
 use Rattle.tl_patch_elements.specs.Inner.Finding.{elements_with}
 use Rattle.tl_patch_elements.specs.declared.finder.Finder.{Finder}
 
--- tokens of which none is the page's own end tag
-pub none_own : (n : ℕ) (ts : List HtmlToken) → tokens_at n false ts ≡ map (at_piece n false) ts
-none_own n [] = refl
-none_own n (t ∷ []) = refl
-none_own n (t ∷ u ∷ ts) = ap (λ us. at_piece n false t ∷ us) (none_own n (u ∷ ts))
-
 -- of several the last one is
 pub last_own : (n : ℕ) (w : Bool) (xs : List HtmlToken) (y : HtmlToken) (ys : List HtmlToken) → tokens_at n w (xs ++ y ∷ ys) ≡ tokens_at n false xs ++ tokens_at n w (y ∷ ys)
 last_own n w [] y ys = refl

@@ -64,13 +64,3 @@ pub none_ended : (all left : List CodeOpenElement) (ended : List CodeElement) (p
 none_ended all left ended p w n rest h k =
     ap (λ (xs : List CodeOpenElement). elements_view ended ++ elements_of (map open_view (reverse xs)) (at_piece p w (EndTag n) ∷ rest)) h
     ∙ sym (ap (λ (xs : List CodeOpenElement). elements_view ended ++ elements_of (map open_view (reverse xs)) rest) k)
-
--- one is opened
-pub one_opened : (all now : List CodeOpenElement) (o : CodeOpenElement) (p : ℕ) (w : Bool) (n : List ℕ) (a : List HtmlAttribute) (c : Bool) (rest : List PlacedToken) → now ≡ all ++ o ∷ [] →
-    open_view o ≡ (n, p) → is_void n ≡ false →
-    elements_of (map open_view (reverse all)) (at_piece p w (StartTag n a c) ∷ rest) ≡ elements_of (map open_view (reverse now)) rest
-one_opened all now o p w n a c rest e h v =
-    let stack : List OpenElement = map open_view (reverse all) in
-    start_opened stack p w n a c rest v
-    ∙ ap (λ (x : OpenElement). elements_of (x ∷ stack) rest) (sym h)
-    ∙ sym (ap (λ (xs : List CodeOpenElement). elements_of (map open_view (reverse xs)) rest) e ∙ ap (λ (xs : List OpenElement). elements_of xs rest) (last_first all o))

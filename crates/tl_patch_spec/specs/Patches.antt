@@ -124,7 +124,7 @@ asked (PutAfter c) n (Whole m) name =
     else Some (put_at (suc m) (NewContent c ∷ []) ∷ [])
 asked (PutAfter c) n (Implied m) name =
     if is_page_name name then None
-    else Some (put_at m (NewEndTag name ∷ NewContent c ∷ []) ∷ [])
+    else Some (put_at m (NewContent c ∷ []) ∷ [])
 asked _ n extent name = None
 
 -- the name of a piece that is a start tag

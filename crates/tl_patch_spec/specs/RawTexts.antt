@@ -4,7 +4,7 @@
 -- at a `frameset`, and may in a `template` or `select`; and where scripts run a `noscript` is a raw
 -- text itself, up to the first `</noscript>`. No token says where such an element ends to it, so
 -- each start tag with one of these names counts for all that stands behind it.
-use Rattle.std.specs.Prelude.{◌≡◌, ℕ, suc, Bool, true, false, ◌||◌, ◌&&◌, ◌==◌, nat_lt, List, [], ◌∷◌, Option, Some, None, codes, if◌then◌else◌}
+use Rattle.std.specs.Prelude.{ℕ, suc, Bool, true, false, ◌||◌, ◌&&◌, ◌==◌, nat_lt, List, [], ◌∷◌, Option, Some, None, codes, if◌then◌else◌}
 use Rattle.std.specs.List.{list_any, slice_get}
 use Rattle.tl_html_spec.specs.HtmlTokenizer.{Character, HtmlToken, StartTag, State, plaintext, raw, rcdata}
 use Rattle.tl_html_spec.specs.Balanced.{is_one_of}

@@ -1,5 +1,5 @@
 -- Where the name of a tag stands in it, and tags with another name in its place.
-use Rattle.std.specs.Prelude.{◌≡◌, ℕ, ◌<◌, Bool, true, false, List, [], ◌∷◌, length, take, codes, slice_index, if◌then◌else◌}
+use Rattle.std.specs.Prelude.{◌≡◌, ℕ, ◌<◌, Bool, true, List, [], ◌∷◌, length, take, codes, slice_index, if◌then◌else◌}
 use Rattle.tl_html_spec.specs.HtmlTokenizer.{OpenTag, data_state, ends_name, tag_name}
 use Rattle.tl_html_spec.specs.Reader.{after, at, emitted, feed}
 use Rattle.tl_patch_spec.specs.Splices.{Splice, with_splices}

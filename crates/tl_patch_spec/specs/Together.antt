@@ -3,7 +3,7 @@ use Rattle.std.specs.Prelude.{◌≡◌, ℕ, suc, Bool, true, ◌||◌, ◌&&�
 use Rattle.std.specs.List.Sorted.{IsPermutation}
 use Rattle.tl_html_spec.specs.Pieces.{Piece}
 use Rattle.tl_patch_spec.specs.Elements.{OpenElement}
-use Rattle.tl_patch_spec.specs.LeftOpen.{LeftOpen, closed_at, left_open, open_after, open_at, places_closed}
+use Rattle.tl_patch_spec.specs.LeftOpen.{Closing, LeftOpen, closed_at, closings, left_open, open_after, open_at, without_ended}
 use Rattle.tl_patch_spec.specs.Patches.{Append, AreAskedOne, Extent, Fill, NewEndTag, Patch, Prepend, Put, PutAfter, PutBefore, Remove, RenameElement, ReplaceWith, asked_of, extent_in, put_at}
 use Rattle.tl_patch_spec.specs.Splices.{Splice, are_ordered}
 use Rattle.tl_patch_spec.specs.Tail.{elements_up_to_tail}
@@ -74,16 +74,17 @@ gone_after (ReplaceWith c) n (s ∷ splices) gone = record { from = n; until = s
 gone_after (Fill c) n (s ∷ splices) gone = record { from = n; until = s.until }
 gone_after patch n splices gone = gone
 
--- the end tag of an element that is left open before a piece: it has its turn with that element
+-- the end tag of an element that is left open, before a piece: it has its turn with that element
 abbrev pub end_tag_at : ℕ → ℕ → Option OpenElement → List Asked
 end_tag_at at place None = []
 end_tag_at at place (Some o) =
     asked_at (record { depth = o.1; rank = 3; at = at }) (put_at place (NewEndTag o.0 ∷ [])) ∷ []
 
--- those that the patch of a number puts in before these pieces
-abbrev pub end_tags : ℕ → LeftOpen → List ℕ → List Asked
+-- those that the patch of a number puts in, of these elements that have got none
+abbrev pub end_tags : ℕ → LeftOpen → List Closing → List Asked
 end_tags at left [] = []
-end_tags at left (n ∷ ns) = end_tag_at at n (open_at left n) ++ end_tags at (closed_at left n) ns
+end_tags at left (c ∷ cs) = end_tag_at at c.place (open_at left.own (c.of).1)
+    ++ end_tags at (closed_at left (c.of).1) cs
 
 -- how far the element that begins at a piece goes
 abbrev pub piece_extent : List Piece → ℕ → Extent
@@ -104,13 +105,14 @@ asked_from ps at gone left (p ∷ patches) =
     else elim (asked_of ps p.0 p.1) as (λ _. Option (List Asked)) [
       | None ↦ None
       | Some asks ↦ with_asks (turn_of p.1 p.0 at) asks
-          (end_tags at left (places_closed p.1 p.0 (piece_extent ps p.0)))
+          (end_tags at left (closings p.1 p.0 (piece_extent ps p.0) left))
           (asked_from ps (suc at) (gone_after p.1 p.0 asks gone)
           (open_after p.1 p.0 (piece_extent ps p.0) left) patches)
     ]
 
 abbrev pub asked_each : List Piece → List (ℕ × Patch) → Option (List Asked)
-asked_each ps patches = asked_from ps 0 none_gone (left_open ps) patches
+asked_each ps patches =
+    asked_from ps 0 none_gone (without_ended patches (left_open ps)) patches
 
 -- whether what is put at one place is put in turn
 abbrev pub is_in_turn : Asked → Asked → Bool

@@ -138,12 +138,11 @@ pub fn before()
     ensures title { on_title (PutBefore (words "y")) ≡ Some (put_at 0 (put_words "y") ∷ []) }
 {}
 
-/// Or after its end, where an end tag that was left out is put in.
+/// Or after its end; an end tag that is left out there is put in beside it (`Together`).
 #[tactic(auto, unfolding(tl_html_spec::specs::Reader::read, tl_html_spec::specs::Reader::rest_before))]
 pub fn after()
     ensures whole { on_whole (PutAfter (words "y")) ≡ Some (put_at 3 (put_words "y") ∷ []) }
-    ensures implied { on_implied (PutAfter (words "y"))
-        ≡ Some (put_at 3 (NewEndTag (codes "li") ∷ put_words "y") ∷ []) }
+    ensures implied { on_implied (PutAfter (words "y")) ≡ Some (put_at 3 (put_words "y") ∷ []) }
     ensures alone { on_alone (PutAfter (words "y")) ≡ Some (put_at 1 (put_words "y") ∷ []) }
     ensures unclosed { on_unclosed (PutAfter (words "y")) ≡ None }
     ensures dropped { on_dropped (PutAfter (words "y")) ≡ None }
@@ -178,9 +177,8 @@ pub fn tokens_of_elements()
         ≡ Some (start "p" [] ++ text "AT&T" ++ start "b" [] ++ text "x" ++ end "b" ++ end "p") }
     ensures before { with_patch "AT&am<b>x</b>" 1 (PutBefore (words "p;"))
         ≡ Some (text "AT&amp;" ++ start "b" [] ++ text "x" ++ end "b") }
-    ensures after { with_patch "<ul><li>a<li>b</ul>" 1 (PutAfter (Markup (codes "<hr>")))
-        ≡ Some (start "ul" [] ++ start "li" [] ++ text "a" ++ end "li" ++ start "hr" []
-        ++ start "li" [] ++ text "b" ++ end "ul") }
+    ensures after { with_patch "<b>x</b>c" 0 (PutAfter (Markup (codes "<hr>")))
+        ≡ Some (start "b" [] ++ text "x" ++ end "b" ++ start "hr" [] ++ text "c") }
 {}
 
 /// At the end of a page something can be put too: it stands in `data`.
@@ -188,8 +186,6 @@ pub fn tokens_of_elements()
 pub fn at_the_end()
     ensures after { with_patch "<p>a</p>" 0 (PutAfter (Markup (codes "<hr>")))
         ≡ Some (start "p" [] ++ text "a" ++ end "p" ++ start "hr" []) }
-    ensures end_tag { with_patch "<p>a" 0 (PutAfter (words "b"))
-        ≡ Some (start "p" [] ++ text "a" ++ end "p" ++ text "b") }
     ensures append { with_patch "<ul><li>a" 1 (Append (words "<"))
         ≡ Some (start "ul" [] ++ start "li" [] ++ text "a<") }
     ensures rename { with_patch "<p>AT&am" 0 (RenameElement (codes "div"))

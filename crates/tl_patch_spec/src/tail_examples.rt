@@ -3,7 +3,7 @@
 ghost use Rattle.std.specs.Prelude.{◌≡◌, ◌∷◌, ◌++◌, [], Some, codes};
 ghost use Rattle.tl_html_spec.specs.Examples.{end, start, text};
 ghost use Rattle.tl_patch_spec.specs.Examples.{alone, asked_in, cut, put_words, up_to_tail_in, whole, with_patch, words};
-ghost use Rattle.tl_patch_spec.specs.Patches.{Append, Fill, NewEndTag, Prepend, PutAfter, Remove, RenameElement, Unwrap, change_tag, cut_out, put_at, put_instead};
+ghost use Rattle.tl_patch_spec.specs.Patches.{Append, Fill, Prepend, PutAfter, Remove, RenameElement, Unwrap, change_tag, cut_out, put_at, put_instead};
 ghost use Rattle.tl_patch_spec.specs.TagChanges.{Rename};
 
 /// They end where `</body>` and `</html>` stand last in the page.
@@ -69,7 +69,7 @@ pub fn patches()
     ensures remove_last { asked_in "<body><p>a</body></html>" 1 Remove
         ≡ Some (cut_out 1 3 ∷ []) }
     ensures after_last { asked_in "<body><p>a</body></html>" 1 (PutAfter (words "y"))
-        ≡ Some (put_at 3 (NewEndTag (codes "p") ∷ put_words "y") ∷ []) }
+        ≡ Some (put_at 3 (put_words "y") ∷ []) }
     ensures tokens { with_patch "<body>a</body></html>" 0 (Append (words "y"))
         ≡ Some (start "body" [] ++ text "ay" ++ end "body" ++ end "html") }
 {}

@@ -121,8 +121,91 @@ pub fn end_tags_of_the_element_before()
         ∷ asked_at (turn_of (PutBefore (words "y")) 2 1) (put_at 2 (put_words "y")) ∷ []) }
 {}
 
+/// So is that of the outermost element that ends where an element does, which stands in this one:
+/// before what is put last in it, and where its end tag goes or gets another name. `</body>` ends
+/// nothing, so it is none of these.
+#[tactic(auto, unfolding(tl_html_spec::specs::Reader::read, tl_html_spec::specs::Reader::rest_before))]
+pub fn end_tags_of_what_is_in_it()
+    ensures append { all_asked "<div><p>a</div>" ((0, Append (words "x")) ∷ [])
+        ≡ Some (asked_at (turn_of (Append (words "x")) 0 0) (put_at 3 (put_words "x"))
+        ∷ end_tag_put "p" 1 0 3 ∷ []) }
+    ensures append_left_open { all_asked "<ul><li><p>a<li>b</ul>" ((1, Append (words "x")) ∷ [])
+        ≡ Some (asked_at (turn_of (Append (words "x")) 1 0) (put_at 4 (put_words "x"))
+        ∷ end_tag_put "p" 2 0 4 ∷ []) }
+    ensures body { all_asked "<body><p>a</body>" ((0, Append (words "x")) ∷ [])
+        ≡ Some (asked_at (turn_of (Append (words "x")) 0 0) (put_at 3 (put_words "x"))
+        ∷ end_tag_put "p" 1 0 3 ∷ []) }
+    ensures page { all_asked "<html><body><p>a</html>" ((0, Append (words "x")) ∷ [])
+        ≡ Some (asked_at (turn_of (Append (words "x")) 0 0) (put_at 4 (put_words "x"))
+        ∷ end_tag_put "p" 2 0 4 ∷ []) }
+    ensures outermost { all_asked "<div><ul><li>a</div>" ((0, Append (words "x")) ∷ [])
+        ≡ Some (asked_at (turn_of (Append (words "x")) 0 0) (put_at 4 (put_words "x"))
+        ∷ end_tag_put "ul" 1 0 4 ∷ []) }
+    ensures rename { all_asked "<div><p>a</div>" ((0, RenameElement (codes "b")) ∷ [])
+        ≡ Some (asked_at (turn_of (RenameElement (codes "b")) 0 0) (change_tag 0 (Rename (codes "b")))
+        ∷ asked_at (turn_of (RenameElement (codes "b")) 0 0) (change_tag 3 (Rename (codes "b")))
+        ∷ end_tag_put "p" 1 0 3 ∷ []) }
+    ensures unwrap { all_asked "<p><option>a<hr>" ((0, Unwrap) ∷ [])
+        ≡ Some (asked_at (turn_of Unwrap 0 0) (cut_out 0 1) ∷ end_tag_put "option" 1 0 3 ∷ []) }
+    ensures once { each_asked "<div><p>a</div>" (Append (words "x")) (0 ∷ 1 ∷ [])
+        ≡ Some (asked_at (turn_of (Append (words "x")) 0 0) (put_at 3 (put_words "x"))
+        ∷ end_tag_put "p" 1 0 3
+        ∷ asked_at (turn_of (Append (words "x")) 1 1) (put_at 3 (put_words "x")) ∷ []) }
+    ensures prepend { all_asked "<div><p>a</div>" ((0, Prepend (words "x")) ∷ [])
+        ≡ Some (asked_at (turn_of (Prepend (words "x")) 0 0) (put_at 1 (put_words "x")) ∷ []) }
+{}
+
+/// An element gets its own end tag once, of whichever patches there are: before what is put after
+/// it, but not where it gets one of another name, or where it goes, or its tags. What goes with it
+/// gets none.
+#[tactic(auto, unfolding(tl_html_spec::specs::Reader::read, tl_html_spec::specs::Reader::rest_before))]
+pub fn end_tags_of_its_own()
+    ensures after { all_asked "<p>a" ((0, PutAfter (words "x")) ∷ [])
+        ≡ Some (asked_at (turn_of (PutAfter (words "x")) 0 0) (put_at 2 (put_words "x"))
+        ∷ end_tag_put "p" 0 0 2 ∷ []) }
+    ensures after_twice { all_asked "<p>a"
+        ((0, PutAfter (words "x")) ∷ (0, PutAfter (words "y")) ∷ [])
+        ≡ Some (asked_at (turn_of (PutAfter (words "x")) 0 0) (put_at 2 (put_words "x"))
+        ∷ end_tag_put "p" 0 0 2
+        ∷ asked_at (turn_of (PutAfter (words "y")) 0 1) (put_at 2 (put_words "y")) ∷ []) }
+    ensures renamed { all_asked "<p>a"
+        ((0, PutAfter (words "x")) ∷ (0, RenameElement (codes "b")) ∷ [])
+        ≡ Some (asked_at (turn_of (PutAfter (words "x")) 0 0) (put_at 2 (put_words "x"))
+        ∷ asked_at (turn_of (RenameElement (codes "b")) 0 1) (change_tag 0 (Rename (codes "b")))
+        ∷ asked_at (turn_of (RenameElement (codes "b")) 0 1) (put_at 2 (NewEndTag (codes "b") ∷ []))
+        ∷ []) }
+    ensures removed { all_asked "<p>a" ((0, Remove) ∷ (0, PutAfter (words "x")) ∷ [])
+        ≡ Some (asked_at (turn_of Remove 0 0) (cut_out 0 2)
+        ∷ asked_at (turn_of (PutAfter (words "x")) 0 1) (put_at 2 (put_words "x")) ∷ []) }
+    ensures unwrapped { all_asked "<p><option>a<hr>"
+        ((0, PutAfter (words "x")) ∷ (0, Unwrap) ∷ [])
+        ≡ Some (asked_at (turn_of (PutAfter (words "x")) 0 0) (put_at 3 (put_words "x"))
+        ∷ asked_at (turn_of Unwrap 0 1) (cut_out 0 1) ∷ end_tag_put "option" 1 1 3 ∷ []) }
+    ensures filled { all_asked "<div><p>a</div>"
+        ((0, Fill (words "x")) ∷ (0, Append (words "y")) ∷ [])
+        ≡ Some (asked_at (turn_of (Fill (words "x")) 0 0) (put_instead 1 3 (put_words "x"))
+        ∷ asked_at (turn_of (Append (words "y")) 0 1) (put_at 3 (put_words "y")) ∷ []) }
+    ensures inner { each_asked "<ul><li><p>a</ul>" (RenameElement (codes "b")) (1 ∷ 2 ∷ [])
+        ≡ Some (asked_at (turn_of (RenameElement (codes "b")) 1 0) (change_tag 1 (Rename (codes "b")))
+        ∷ asked_at (turn_of (RenameElement (codes "b")) 1 0) (put_at 4 (NewEndTag (codes "b") ∷ []))
+        ∷ asked_at (turn_of (RenameElement (codes "b")) 2 1) (change_tag 2 (Rename (codes "b")))
+        ∷ asked_at (turn_of (RenameElement (codes "b")) 2 1) (put_at 4 (NewEndTag (codes "b") ∷ []))
+        ∷ []) }
+{}
+
+/// An end tag that may not be left out is put in as well.
+#[tactic(auto, unfolding(tl_html_spec::specs::Reader::read, tl_html_spec::specs::Reader::rest_before))]
+pub fn end_tags_that_are_missing()
+    ensures before { all_asked "<h1>a<h2>b</h2>" ((2, PutBefore (words "x")) ∷ [])
+        ≡ Some (asked_at (turn_of (PutBefore (words "x")) 2 0) (put_at 2 (put_words "x"))
+        ∷ end_tag_put "h1" 0 0 2 ∷ []) }
+    ensures append { all_asked "<div><span>a</div>" ((0, Append (words "x")) ∷ [])
+        ≡ Some (asked_at (turn_of (Append (words "x")) 0 0) (put_at 3 (put_words "x"))
+        ∷ end_tag_put "span" 1 0 3 ∷ []) }
+{}
+
 /// None is put in where none is left open: the element before ends with its own end tag or isn't
-/// there, it goes, or it gets an end tag there by itself.
+/// there, it goes, or it has got its end tag.
 #[tactic(auto, unfolding(tl_html_spec::specs::Reader::read, tl_html_spec::specs::Reader::rest_before))]
 pub fn no_end_tags()
     ensures closed { all_asked "<p>a</p><p>b" ((3, PutBefore (words "x")) ∷ [])
@@ -140,8 +223,8 @@ pub fn no_end_tags()
         ∷ asked_at (turn_of Unwrap 2 1) (cut_out 2 3) ∷ []) }
     ensures put_after { all_asked "<p>a<p>b"
         ((0, PutAfter (words "x")) ∷ (2, PutBefore (words "y")) ∷ [])
-        ≡ Some (asked_at (turn_of (PutAfter (words "x")) 0 0)
-        (put_at 2 (NewEndTag (codes "p") ∷ put_words "x"))
+        ≡ Some (asked_at (turn_of (PutAfter (words "x")) 0 0) (put_at 2 (put_words "x"))
+        ∷ end_tag_put "p" 0 0 2
         ∷ asked_at (turn_of (PutBefore (words "y")) 2 1) (put_at 2 (put_words "y")) ∷ []) }
     ensures removed { all_asked "<p>a<p>b" ((0, Remove) ∷ (2, PutBefore (words "y")) ∷ [])
         ≡ Some (asked_at (turn_of Remove 0 0) (cut_out 0 2)

@@ -80,7 +80,6 @@ pub record IsPlanned (patches : List MeantPatch) (one : PlacedAsk) : Type 0 wher
 
 -- whether the name of a tag that is put can stand as it is
 abbrev pub has_name : CodePut → Bool
-has_name (put.EndTagAndContent raw content) = is_name (name_of raw.now)
 has_name (put.LeftOut raw) = is_name (name_of raw.now)
 has_name (put.EndTag name) = is_name name.now
 has_name (put.Renamed name) = is_name name.now
@@ -103,7 +102,6 @@ CannotStandIn m (Markup markup) = (is_data m ≡ false) ⊎ (has_mark markup ≡
 
 abbrev pub CannotPutIn : Mode → CodePut → Type 0
 CannotPutIn m (put.Content content) = CannotStandIn m (content_view content)
-CannotPutIn m (put.EndTagAndContent raw content) = CannotStandIn m (content_view content)
 CannotPutIn m _ = ⊥
 
 -- what is asked for can't be written at its part

@@ -1,10 +1,7 @@
 use Rattle.std.proofs.Common.{ap}
 use Rattle.tl_patch_spec.specs.LeftOpen.{LeftOpen, open_with_all}
 use Rattle.tl_patch_elements.specs.View.{elements_view}
-use Rattle.tl_patch_edit.proofs.Open.{none_all}
 use Rattle.tl_patch_edit.proofs.left_open.left_open.Goals as goal
 
 pub loop-at-init : goal.loop-at-init
-loop-at-init c =
-    ap (λ (left : LeftOpen). open_with_all (elements_view c.args.elements.now) left)
-    (none_all c.in_ok-left.left.items c.args.len c.in_ok-left.ensures.none c.in_ok-left.ensures.len)
+loop-at-init c = ap (λ (left : LeftOpen). open_with_all (elements_view c.args.elements.now) left) c.in_ok-left.ensures

@@ -10,7 +10,7 @@ use Rattle.tl_patch_edit.specs.View.{gone_view, meant_view}
 use Rattle.tl_patch_edit.specs.declared.ask.Gone.{Gone}
 use Rattle.tl_patch_edit.specs.declared.ask.MeantPatch.{MeantPatch}
 use Rattle.tl_patch_edit.specs.declared.ask.PlacedAsk.{PlacedAsk}
-use Rattle.tl_patch_edit.specs.declared.left_open.OpenElement.{OpenElement}
+use Rattle.tl_patch_edit.specs.declared.left_open.LeftOpen.{LeftOpen as CodeLeft}
 use Rattle.tl_patch_edit.proofs.Refusals.{err_is, planned_more, unmeant, within_extents}
 use Rattle.tl_patch_edit.proofs.Together.{AskedFrom, asks_more, asks_same, before}
 use Rattle.tl_patch_edit.proofs.several.asks_of.Goals as goal
@@ -28,19 +28,19 @@ loop-at-preserved c =
           let within : _ < length c.args.extents.now = within_extents c.args.page.now meant at _ _ _ c.loop-at-test.true refl c.requires.meant c.requires.within in
           let pushed : c.if-not-is_gone.asks.items ≡ c.loop-at.asks.items ++ p.more = ap (λ (v : Vec PlacedAsk Global). v.items) w.asks-is ∙ p.is in
           record {
-            asked = asks_more ps meant at (gone_view c.loop-at.gone) (gone_view c.if-not-is_gone.gone) (left_view c.loop-at.left.items) (left_view c.if-not-is_gone.left.items) _ _ _
+            asked = asks_more ps meant at (gone_view c.loop-at.gone) (gone_view c.if-not-is_gone.gone) (left_view c.loop-at.left) (left_view c.if-not-is_gone.left) _ _ _
                 w.in_ok-planned.planned c.loop-at.asks.items c.if-not-is_gone.asks.items p.more all c.loop-at-test.true refl
                 (sym c.is_gone-is_gone.ensures ∙ w.if-not-is_gone.true) w.in_ok-planned.ensures.planned (c.requires.extents _ _ within) pushed p.asked
-                (ap (λ (v : Vec (Option OpenElement) Global). left_view v.items) w.left-is ∙ p.remains)
+                (ap (λ (v : CodeLeft). left_view v) w.left-is ∙ p.remains)
                 (ap gone_view w.gone-is ∙ w.gone_after-gone.ensures) c.loop-at.invariant.asked;
             planned = planned_more meant at _ _ c.loop-at.asks.items c.if-not-is_gone.asks.items p.more c.loop-at-test.true refl pushed p.of c.loop-at.invariant.planned;
           }
       | else-not-is_gone w ↦
-          let left : left_view c.if-not-is_gone.left.items ≡ left_view c.loop-at.left.items = ap (λ (v : Vec (Option OpenElement) Global). left_view v.items) w.left-is in
+          let left : left_view c.if-not-is_gone.left ≡ left_view c.loop-at.left = ap (λ (v : CodeLeft). left_view v) w.left-is in
           record {
             asked = subst (λ (y : LeftOpen). all ≡ before (asked_view c.if-not-is_gone.asks.items) (AskedFrom ps (at + 1) (gone_view c.if-not-is_gone.gone) y (drop (at + 1) meant))) (sym left)
-                (subst₂ (λ (v : Vec PlacedAsk Global) (g : Gone). all ≡ before (asked_view v.items) (AskedFrom ps (at + 1) (gone_view g) (left_view c.loop-at.left.items) (drop (at + 1) meant))) (sym w.asks-is) (sym w.gone-is)
-                (asks_same ps meant at (gone_view c.loop-at.gone) (left_view c.loop-at.left.items) _ _ (asked_view c.loop-at.asks.items) all c.loop-at-test.true refl (sym c.is_gone-is_gone.ensures ∙ w.if-not-is_gone.false) c.loop-at.invariant.asked));
+                (subst₂ (λ (v : Vec PlacedAsk Global) (g : Gone). all ≡ before (asked_view v.items) (AskedFrom ps (at + 1) (gone_view g) (left_view c.loop-at.left) (drop (at + 1) meant))) (sym w.asks-is) (sym w.gone-is)
+                (asks_same ps meant at (gone_view c.loop-at.gone) (left_view c.loop-at.left) _ _ (asked_view c.loop-at.asks.items) all c.loop-at-test.true refl (sym c.is_gone-is_gone.ensures ∙ w.if-not-is_gone.false) c.loop-at.invariant.asked));
             planned = subst (λ (v : Vec PlacedAsk Global). All (IsPlanned meant) v.items) (sym w.asks-is) c.loop-at.invariant.planned;
           }
     ]

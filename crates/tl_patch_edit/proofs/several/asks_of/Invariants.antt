@@ -13,6 +13,6 @@ use Rattle.tl_patch_edit.proofs.several.asks_of.Given as goal
 abbrev pub invariant-loop-at : goal.invariant-loop-at
 invariant-loop-at l = record {
   asked : asked_each (runs (pieces l.page)) (meant_view l.meant)
-      ≡ before (asked_view l.asks.items) (AskedFrom (runs (pieces l.page)) l.at (gone_view l.gone) (left_view l.left.items) (drop l.at l.meant));
+      ≡ before (asked_view l.asks.items) (AskedFrom (runs (pieces l.page)) l.at (gone_view l.gone) (left_view l.left) (drop l.at l.meant));
   planned : All (IsPlanned l.meant) l.asks.items;
 }

@@ -1,9 +1,14 @@
+use Rattle.std.proofs.Common.{ap, ◌∙◌}
 use Rattle.tl_html_spec.specs.Pieces.{pieces, runs}
+use Rattle.tl_patch_spec.specs.LeftOpen.{without_ended}
 use Rattle.tl_patch_edit.specs.Inner.Causes.{IsPlanned}
 use Rattle.std.proofs.lemmas.List.Sorted.{All-permutation}
 use Rattle.tl_patch_edit.specs.View.{meant_view}
 use Rattle.tl_patch_edit.proofs.Together.{sorted}
 use Rattle.tl_patch_edit.proofs.several.sorted_asks.Goals as goal
+
+pub asks_of-requires-clause-left : goal.asks_of-requires-clause-left
+asks_of-requires-clause-left c = c.without_ended.ensures ∙ ap (without_ended (meant_view c.args.meant.now)) c.requires.left
 
 pub returns-clause-sorted : goal.returns-clause-sorted
 returns-clause-sorted c =

@@ -1,11 +1,11 @@
-use Rattle.std.proofs.Common.{rules, Err, None, ◌≡◌, ℕ, List, arith, drop, length, replicate, suc, ap, ap₂, subst, sym, ◌∙◌}
+use Rattle.std.proofs.Common.{rules, Err, ◌≡◌, ℕ, List, arith, drop, length, ap, ap₂, subst, sym, ◌∙◌}
 use Rattle.std.specs.List.{All}
 use Rattle.tl_html_spec.specs.Pieces.{pieces, runs}
 use Rattle.tl_html_tokens.specs.Tokens.{AreTokensOf}
 use Rattle.tl_html_tokens.specs.declared.token.Token.{Token}
 use Rattle.tl_patch_elements.specs.View.{elements_view}
 use Rattle.tl_patch_spec.specs.Elements.{Element}
-use Rattle.tl_patch_spec.specs.LeftOpen.{open_with_all}
+use Rattle.tl_patch_spec.specs.LeftOpen.{none_open, open_with_all}
 use Rattle.tl_patch_spec.specs.Tail.{elements_up_to_tail}
 use Rattle.tl_patch_edit.specs.Asks.{asks_view}
 use Rattle.tl_patch_edit.specs.Inner.Causes.{IsAsksError, IsPageError, IsPlanned, IsStartsError}
@@ -59,7 +59,7 @@ sorted_asks-requires-clause-left c =
     let same : elements_view c.as_slice-4.result.now ≡ es = ap elements_view c.as_slice-4.ensures.value ∙ c.in_ok-found.ensures.elements in
     let all : length (runs (pieces page)) ≡ length (parts_view parts) = length_pieces (parts_view parts) (runs (pieces page)) c.in_ok-parts.ensures in
     let len : c.len-2.result ≡ length (runs (pieces page)) = omega (arith, length_view parts) in
-    c.in_ok-left.ensures ∙ ap₂ (λ (fs : List Element) n. open_with_all fs (replicate (suc n) None)) same len
+    c.in_ok-left.ensures ∙ ap₂ (λ (fs : List Element) n. open_with_all fs (none_open n)) same len
 
 pub returns-clause-edited : goal.returns-clause-edited
 returns-clause-edited c =

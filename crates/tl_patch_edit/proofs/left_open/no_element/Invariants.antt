@@ -1,6 +1,6 @@
 use Rattle.std.proofs.Common.{◌≤◌, ◌+◌, ◌-◌, length}
 use Rattle.tl_patch_edit.specs.Open.{AreNone}
-use Rattle.tl_patch_edit.proofs.left_open.none_open.Given as goal
+use Rattle.tl_patch_edit.proofs.left_open.no_element.Given as goal
 
 abbrev pub invariant-tokens : goal.invariant-tokens
 invariant-tokens l = record { within : length l.left.items ≤ l.len + 1; none : AreNone l.left.items }
