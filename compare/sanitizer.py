@@ -8,6 +8,10 @@ from .fitting import PREFORMATTED, is_flow, may_stand
 from .serializer import VOID, escaped
 from .tree_model import Builder
 
+REFERRING = (
+    "for form headers itemref list popovertarget commandfor aria-activedescendant aria-controls aria-describedby aria-details"
+    " aria-errormessage aria-flowto aria-labelledby aria-owns"
+).split()
 OPAQUE = "script style textarea title xmp iframe noembed noframes noscript plaintext template".split()
 
 
@@ -34,13 +38,27 @@ class Policy:
     def keeps(self, key, value):
         """Whether a key stays with its value."""
         is_link = self.begins_link(value) or self.is_relative(value)
-        if key not in self.keys or (key in self.link_keys and not (is_link and re.fullmatch(r"[!#-~]*", value))):
+        if key not in self.keys or (key in self.link_keys and not (is_link and re.fullmatch(r"[^\0- \"\x7f]*", value))):
             return False
-        return key not in ("id", "name", "class") or bool(value.startswith(self.prefix) and re.fullmatch(r"[A-Za-z0-9_-]*", value))
+        is_name = value.startswith(self.prefix) and re.fullmatch(r"[A-Za-z0-9_.:\x80-\U0010ffff-]*", value)
+        return key not in ("id", "name", "class") or bool(is_name)
+
+    def named(self, text):
+        """A text with the prefix in front of each word that hasn't it."""
+        return re.sub(r"[^ \t\n\f\r]+", lambda word: word.group() if word.group().startswith(self.prefix) else self.prefix + word.group(), text)
+
+    def says(self, key, value):
+        """What a value says at a key: a link as the URL standard reads it, and names with the prefix."""
+        if key in self.link_keys:
+            link = re.sub(r"[\t\n\r]", "", value.strip("".join(map(chr, range(33)))))
+            link = re.sub(r"^[A-Za-z][A-Za-z0-9+.-]*:", lambda scheme: scheme.group().lower(), link)
+            return cleaned("#" + self.named(link[1:]) if link.startswith("#") else link)
+        return cleaned(self.named(value) if key in ("id", "name") or key in REFERRING else value)
 
     def pairs(self, node):
         """The attributes that stay; those of a link after the mark, where the policy wants it."""
-        kept = [(key, cleaned(value)) for key, value in node.attributes.items() if self.keeps(key, cleaned(value))]
+        said = [(key, self.says(key, value)) for key, value in node.attributes.items()]
+        kept = [pair for pair in said if self.keeps(*pair)]
         if self.marks_links and node.name in ("a", "area") and any(key == "href" for key, _ in kept):
             return [("rel", "nofollow noopener")] + [pair for pair in kept if pair[0] != "rel"]
         return kept

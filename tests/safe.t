@@ -140,15 +140,21 @@ Links.
   $ printf '<a href="https:javascript:steal()">c</a>' | tl sanitize
   <a>c</a> (no-eol)
   $ printf '<a href="HTTPS://e/">c</a>' | tl sanitize
-  <a>c</a> (no-eol)
+  <a href="https://e/">c</a> (no-eol)
   $ printf '<a href="https://e/\té">c</a>' | tl sanitize
-  <a>c</a> (no-eol)
+  <a href="https://e/é">c</a> (no-eol)
   $ printf '<a href="https://e/é">c</a>' | tl sanitize
+  <a href="https://e/é">c</a> (no-eol)
+  $ printf '<a href="\n hTTp://e/\t ">c</a>' | tl sanitize
+  <a href="http://e/">c</a> (no-eol)
+  $ printf '<a href="HTTP&Tab;S&colon;//E/X:Y">c</a>' | tl sanitize
+  <a href="https://E/X:Y">c</a> (no-eol)
+  $ printf '<a href="https://e/x y">c</a>' | tl sanitize
   <a>c</a> (no-eol)
   $ printf '<a href="#<b>">c</a>' | tl sanitize
-  <a href="#&lt;b&gt;">c</a> (no-eol)
+  <a href="#user-&lt;b&gt;">c</a> (no-eol)
   $ printf '<a href="#javascript:steal()">c</a>' | tl sanitize
-  <a href="#javascript:steal()">c</a> (no-eol)
+  <a href="#user-javascript:steal()">c</a> (no-eol)
   $ printf '<img src="javascript:steal()" alt="x">' | tl sanitize
   <img alt="x"> (no-eol)
   $ printf '<q cite="javascript:steal()">c</q>' | tl sanitize
@@ -324,9 +330,15 @@ Keys, in exact case, and twice in a tag.
 Names that others can refer to.
 
   $ printf '<p id="body" class="user-x">x</p>' | tl sanitize
-  <p class="user-x">x</p> (no-eol)
+  <p id="user-body" class="user-x">x</p> (no-eol)
   $ printf '<p class="user-x admin">x</p>' | tl sanitize
   <p>x</p> (no-eol)
+  $ printf '<h2 id=usage>x</h2><a href="#usage">y</a><a href="#user-usage">z</a>' | tl sanitize
+  <h2 id="user-usage">x</h2><a href="#user-usage">y</a><a href="#user-usage">z</a> (no-eol)
+  $ printf '<h2 id=über>x</h2><a href="#über">y</a><sup id=fn:1>1</sup><a href="#">2</a>' | tl sanitize
+  <h2 id="user-über">x</h2><a href="#user-über">y</a><sup id="user-fn:1">1</sup><a href="#">2</a> (no-eol)
+  $ printf '<p aria-labelledby="a  user-b" name=c for=d headers="">x</p>' | tl sanitize --keys aria-labelledby,for,headers,name
+  <p aria-labelledby="user-a  user-b" name="user-c" for="user-d" headers="">x</p> (no-eol)
   $ printf '<p id="user-x" id="body">y</p>' | tl sanitize
   <p id="user-x">y</p> (no-eol)
   $ printf '<p id="user-x y">y</p>' | tl sanitize
@@ -391,7 +403,7 @@ By a policy for tables and videos.
   $ printf '<video src="../x">x</video>' | tl sanitize $(cat videos)
   <video>x</video> (no-eol)
   $ printf '<video id="v1">x</video><video id="1">y</video>' | tl sanitize $(cat videos)
-  <video id="v1">x</video><video>y</video> (no-eol)
+  <video id="v1">x</video><video id="v1">y</video> (no-eol)
   $ printf '<video class="v1">x</video>' | tl sanitize $(cat videos)
   <video>x</video> (no-eol)
   $ printf '<table> <script>steal()</script><TR><td>x' | tl sanitize $(cat videos)
@@ -428,7 +440,7 @@ Links beside the page, by the policy for documents; that for a blog drops them.
   $ printf '<a href="">y</a>' | tl sanitize --documents
   <a>y</a> (no-eol)
   $ printf '<a href=" x">y</a>' | tl sanitize --documents
-  <a>y</a> (no-eol)
+  <a href="x">y</a> (no-eol)
   $ printf '<img src=x.png>' | tl sanitize
   <img> (no-eol)
 
@@ -446,7 +458,7 @@ Links that are marked.
   $ printf '<a rel="x" href="/x" rel="y">y</a>' | tl sanitize $(cat marked)
   <a rel="nofollow noopener" href="/x">y</a> (no-eol)
   $ printf '<a href="#x">y</a>' | tl sanitize $(cat marked)
-  <a rel="nofollow noopener" href="#x">y</a> (no-eol)
+  <a rel="nofollow noopener" href="#user-x">y</a> (no-eol)
   $ printf '<a href="javascript:x()" rel="x">y</a>' | tl sanitize $(cat marked)
   <a rel="x">y</a> (no-eol)
   $ printf '<a href rel=x>y</a>' | tl sanitize $(cat marked)

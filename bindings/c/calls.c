@@ -125,6 +125,8 @@ static void of_lists(void) {
     PUTS("<p>x<a href=\"b.png\">y</a></p>z<b>c</b>", tl_sanitize_html_with(&lists, TEXT(written), OUT, &cause));
     lists.tags = tl_list_of(",a,,h1,");
     PUTS("x<a href=\"b.png\">y</a><h1>z</h1>c", tl_sanitize_html_with(&lists, TEXT(written), OUT, &cause));
+    lists.tags = tl_list_of("-p,+h1");
+    PUTS("x<a href=\"b.png\">y</a><h1>z</h1><b>c</b>", tl_sanitize_html_with(&lists, TEXT(written), OUT, &cause));
     lists.nofollow_links = true;
     PUTS("<a rel=\"nofollow noopener\" href=\"/b\">y</a>", tl_sanitize_html_with(&lists, TEXT("<A HREF=/b>y"), OUT, &cause));
     lists.tags = tl_list_of("");

@@ -1,4 +1,5 @@
-"""Times tlhtml beside lxml, BeautifulSoup and bleach, where they are there: milliseconds, the least of some rounds, as a table.
+"""Times tlhtml beside lxml, BeautifulSoup and bleach, where they are there: milliseconds of the processor, the least of some rounds, as a
+table. What takes more than 20 seconds is ended, and `-` stands there.
 
     python3 timing.py PAGE..             as python3 timing.py pages/*.html
     python3 timing.py --crawl FOLDER     pages a second and a core of examples/crawl.py in a cluster of two workers, read by each of them
@@ -6,6 +7,7 @@
 import functools
 import importlib.util
 import os
+import signal
 import sys
 import time
 
@@ -74,16 +76,37 @@ WORKS = [
 ]
 
 
-def least(call, page, rounds=5, enough=1.0):
-    """The least milliseconds of the processor of some rounds, fewer where they take long."""
-    best, begun = float("inf"), time.perf_counter()
-    for _ in range(rounds):
-        start = time.process_time()
+class Late(Exception):
+    """What was asked took too long."""
+
+
+def ended(_signal, _frame):
+    raise Late
+
+
+def seconds(call, page, times):
+    """Seconds of the processor for so many calls."""
+    start = time.process_time()
+    for _ in range(times):
         call(page)
-        best = min(best, 1000 * (time.process_time() - start))
-        if time.perf_counter() - begun > enough:
-            break
-    return best
+    return time.process_time() - start
+
+
+def least(call, page, rounds=5, enough=0.2, most=20):
+    """The least milliseconds of the processor for a call, of some rounds, or `-` for what takes too long. Some systems count the
+    processor's time in steps of a few milliseconds, so short calls are made many times in a round."""
+    signal.signal(signal.SIGPROF, ended)
+    signal.setitimer(signal.ITIMER_PROF, most)
+    try:
+        times = 1
+        while (took := seconds(call, page, times)) < enough:
+            times *= 2
+        rounds = rounds if took < 5 * enough else 1
+        return f"{1000 * min([took, *(seconds(call, page, times) for _ in range(rounds - 1))]) / times:.2f}"
+    except Late:
+        return "-"
+    finally:
+        signal.setitimer(signal.ITIMER_PROF, 0)
 
 
 def crawl_lxml(page):
@@ -130,7 +153,7 @@ def main(files):
     for file in files:
         with open(file, encoding="utf-8", errors="replace") as it:
             page = it.read()
-        figures = [f"{least(call, page):.1f}" for _, _, _, call in works]
+        figures = [least(call, page) for _, _, _, call in works]
         print(f"| {os.path.basename(file)} | {len(page.encode()) // 1024} | " + " | ".join(figures) + " |", flush=True)
 
 

@@ -289,6 +289,7 @@ class SafePages(unittest.TestCase):
         self.assertEqual(sanitize(page, Policy.COMMENTS.lists()), sanitize(page, Policy.COMMENTS))
         self.assertEqual(sanitize(page, Policy.COMMENTS.lists(tags=[])), "xyzc")
         self.assertEqual(sanitize(page, Policy.BLOG.lists(tags="h1")), "xy<h1>z</h1>c")
+        self.assertEqual(sanitize(page, Policy.COMMENTS.lists(tags=["+h1", "-p"])), "x<a>y</a><h1>z</h1><b>c</b>")
         lists = Policy.COMMENTS.lists(
             tags=("p", "a"), keys={"class", "href"}, id_prefix="own-", relative_links=True, nofollow_links=True
         )

@@ -39,11 +39,17 @@ class Policy(enum.IntEnum):
         nofollow_links: bool = False,
     ) -> Lists:
         """This policy with lists of one's own in the place of those that it has: the tags and keys that may stand, the keys that hold
-        links, what links begin with, and what values of `id`, `name` and `class` begin with; whether links beside the page may stand
-        too, and whether each is marked with `rel="nofollow noopener"`. A PolicyError says which word no policy may list.
+        links, what links begin with, and what stands in front of `id` and `name` and of links to them, and what `class` begins with;
+        whether links beside the page may stand too, and whether each is marked with `rel="nofollow noopener"`. A PolicyError says which
+        word no policy may list.
 
         >>> sanitize("<p>x<b>y", Policy.COMMENTS.lists(tags=["b"]))
         'x<b>y</b>'
+
+        A list whose first word begins with `+` or `-` changes the policy's own.
+
+        >>> sanitize("<p>x<b>y", Policy.COMMENTS.lists(tags=["-b", "+img"]))
+        '<p>xy</p>'
         """
         words = (tags, keys, link_keys, link_prefixes)
         prefix = None if id_prefix is None else utf8(id_prefix, "a prefix")

@@ -30,7 +30,8 @@ pub fn sanitize_by(policy: Policy, page: &str) -> Result<String, Error> {
 }
 
 impl Policy {
-    /// Its lists, of which some may be said anew. A list that is said stands in the place of the policy's own.
+    /// Its lists, of which some may be said anew. A list that is said stands in the place of the policy's own; one that begins with `+`
+    /// or `-`, as "+img,-b", adds words to that and takes others away.
     ///
     /// ```
     /// use tlhtml::Policy;
@@ -98,7 +99,7 @@ impl<'w> Lists<'w> {
         }
     }
 
-    /// What values of `id`, `name` and `class` begin with: one word.
+    /// What is put in front of values of `id` and `name` and of links to them, and what those of `class` begin with: one word.
     pub fn id_prefix(self, word: &'w str) -> Lists<'w> {
         Lists {
             id_prefix: Some(word),

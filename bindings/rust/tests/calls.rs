@@ -381,6 +381,10 @@ fn lists_of_ones_own() {
     let lists = Policy::Comments.lists();
     assert_eq!(lists.sanitize(page), sanitize_by(Policy::Comments, page));
     assert_eq!(lists.tags("").sanitize(page).as_deref(), Ok("xyzc"));
+    assert_eq!(
+        lists.tags("+h1,-p").sanitize(page).as_deref(),
+        Ok("x<a>y</a><h1>z</h1><b>c</b>")
+    );
     let lists = lists
         .tags("p,a")
         .keys("class,href")

@@ -10,6 +10,7 @@ pub mod Passes
 pub mod KindFacts
 pub mod LevelFacts
 pub mod Whole
+pub mod KeptValues
 pub mod WrittenAttributes
 pub mod WalkSteps
 pub mod Walks
@@ -17,5 +18,6 @@ pub mod OpenElements
 pub mod WalkRows
 pub mod SaidTexts
 pub mod Commas
+pub mod Marks
 pub mod Lawful
 pub mod InDiv

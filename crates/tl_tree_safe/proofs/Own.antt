@@ -13,10 +13,11 @@ use Rattle.tl_safe_fit.specs.Words.{is_among}
 use Rattle.tl_spec.specs.Lex.ByteClass.{is_void}
 use Rattle.tl_tree_safe.proofs.Filters.{all_also, both_all, filter_all, filter_also, filter_none, map_all}
 use Rattle.tl_tree_safe.specs.Fitted.{Names, fitted, in_place, inside, is_read, past_lines, unlined}
-use Rattle.tl_tree_safe.specs.Kept.{cleaned, cleaned_attribute, goes, has_key, is_beside_mark, is_listed_attribute, is_marked_link, is_said, joined, kept, kept_attributes, kept_element, kept_tag, mark, marked_where, said_byte, stays, unwrapped}
+use Rattle.tl_tree_safe.specs.Kept.{cleaned, goes, has_key, is_beside_mark, is_listed_attribute, is_marked_link, is_said, joined, kept, kept_attribute, kept_attributes, kept_element, kept_tag, mark, marked_where, said_byte, stays, unwrapped}
 use Rattle.tl_tree_safe.specs.Listed.{begins_marked, is_marked, is_target}
 use Rattle.tl_tree_safe.specs.Lists.{ListedWords, is_listed_link, linking_names, lists_words, may_mark, opaque_names, rel_key, rel_value}
 use Rattle.tl_tree_safe.specs.OwnKeys.{HaveOwnKeys, are_apart, comes_again}
+use Rattle.tl_tree_safe.specs.Values.{own_value}
 use Rattle.tl_tree_spec.specs.Builder.{is_flow, mode_of}
 use Rattle.tl_tree_spec.specs.Groups.{group}
 use Rattle.tl_tree_spec.specs.HtmlForest.{is_empty}
@@ -72,20 +73,20 @@ cleaned-text bytes = all_also is_kept_in_value is_kept (cleaned bytes) no_return
 
 -- Keys
 
-again-cleaned : (key : List ℕ) (xs : List Attribute) → comes_again key xs ≡ false → comes_again key (map cleaned_attribute xs) ≡ false
-again-cleaned key [] h = refl
-again-cleaned key (a ∷ xs) h =
-    here (bytes_eq key a.key) (comes_again key xs) h (again-cleaned key xs)
+again-kept : (p : ListedWords) (key : List ℕ) (xs : List Attribute) → comes_again key xs ≡ false → comes_again key (map (kept_attribute p) xs) ≡ false
+again-kept p key [] h = refl
+again-kept p key (a ∷ xs) h =
+    here (bytes_eq key a.key) (comes_again key xs) h (again-kept p key xs)
   where
-    here : (x y : Bool) → x || y ≡ false → (y ≡ false → comes_again key (map cleaned_attribute xs) ≡ false) → x || comes_again key (map cleaned_attribute xs) ≡ false
+    here : (x y : Bool) → x || y ≡ false → (y ≡ false → comes_again key (map (kept_attribute p) xs) ≡ false) → x || comes_again key (map (kept_attribute p) xs) ≡ false
     here false y e k = k e
     here true y e k = absurd (true≢false e)
 
-apart-cleaned : (xs : List Attribute) → are_apart xs ≡ true → are_apart (map cleaned_attribute xs) ≡ true
-apart-cleaned [] h = refl
-apart-cleaned (a ∷ xs) h =
+apart-kept : (p : ListedWords) (xs : List Attribute) → are_apart xs ≡ true → are_apart (map (kept_attribute p) xs) ≡ true
+apart-kept p [] h = refl
+apart-kept p (a ∷ xs) h =
     let q = and_parts (not (comes_again a.key xs)) (are_apart xs) h in
-    and_from _ _ (ap not (again-cleaned a.key xs (not-true (comes_again a.key xs) q.0))) (apart-cleaned xs q.1)
+    and_from _ _ (ap not (again-kept p a.key xs (not-true (comes_again a.key xs) q.0))) (apart-kept p xs q.1)
 
 apart-filter : (test : Attribute → Bool) (xs : List Attribute) → are_apart xs ≡ true → are_apart (filter test xs) ≡ true
 apart-filter test [] h = refl
@@ -111,12 +112,12 @@ none_beside (a ∷ xs) h =
 own_kept : (p : ListedWords) (attributes : List Attribute) → list_all (is_own_attribute p) (kept_attributes p attributes) ≡ true
 own_kept p attributes =
     both_all (is_listed_attribute p) (λ (a : Attribute). list_all is_kept_in_value a.value) (kept_attributes p attributes)
-    (filter_all (is_listed_attribute p) (map cleaned_attribute attributes))
-    (filter_also (is_listed_attribute p) (λ (a : Attribute). list_all is_kept_in_value a.value) (map cleaned_attribute attributes)
-    (map_all cleaned_attribute (λ (a : Attribute). list_all is_kept_in_value a.value) attributes (λ a. cleaned-kept a.value)))
+    (filter_all (is_listed_attribute p) (map (kept_attribute p) attributes))
+    (filter_also (is_listed_attribute p) (λ (a : Attribute). list_all is_kept_in_value a.value) (map (kept_attribute p) attributes)
+    (map_all (kept_attribute p) (λ (a : Attribute). list_all is_kept_in_value a.value) attributes (λ a. cleaned-kept (own_value p a.key a.value))))
 
 apart_kept : (p : ListedWords) (attributes : List Attribute) → are_apart attributes ≡ true → are_apart (kept_attributes p attributes) ≡ true
-apart_kept p attributes h = apart-filter (is_listed_attribute p) (map cleaned_attribute attributes) (apart-cleaned attributes h)
+apart_kept p attributes h = apart-filter (is_listed_attribute p) (map (kept_attribute p) attributes) (apart-kept p attributes h)
 
 -- the mark may stand where a policy marks links
 mark_own : (p : ListedWords) → lists_words p ≡ true → p.nofollow_links ≡ true → is_own_attribute p mark ≡ true
@@ -124,7 +125,7 @@ mark_own p l n =
     let q = (and_parts _ (not p.nofollow_links || may_mark p) l).1 in
     let m : may_mark p ≡ true = ap (λ v. not v || may_mark p) (sym n) ∙ q in
     let r = and_parts (is_among p.keys rel_key) (not (is_among p.link_keys rel_key)) m in
-    ap₂ (λ (k l : Bool). ((true && k) && ((not l || is_listed_link p rel_value) && true)) && true) r.0 (not-true (is_among p.link_keys rel_key) r.1)
+    ap₂ (λ (k l : Bool). ((true && k) && (((not l || is_listed_link p rel_value) && true) && true)) && true) r.0 (not-true (is_among p.link_keys rel_key) r.1)
 
 same_target : (xs : List Attribute) → list_any is_target (map pair_of xs) ≡ list_any (has_key (codes "href")) xs
 same_target [] = refl

@@ -34,6 +34,12 @@ kept_in markup = kept_by some_lists markup
 abbrev pub relative_lists : ListedWords
 relative_lists = record some_lists { relative_links = true }
 
+abbrev pub naming_lists : ListedWords
+naming_lists = record some_lists {
+  keys = codes "headers" ∷ some_lists.keys;
+  link_prefixes = codes "#" ∷ some_lists.link_prefixes;
+}
+
 abbrev pub marking_lists : ListedWords
 marking_lists = record some_lists { keys = codes "rel" ∷ some_lists.keys; nofollow_links = true }
 

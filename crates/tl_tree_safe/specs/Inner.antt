@@ -3,6 +3,7 @@ pub mod Attributes
 pub mod Cleaning
 pub mod Pass
 pub mod Levels
+pub mod Staying
 pub mod Walk
 pub mod Roles
 pub mod Bytes

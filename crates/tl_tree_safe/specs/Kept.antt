@@ -8,6 +8,7 @@ use Rattle.tl_dom_spec.specs.Tags.{Attribute, AttributeSpace, Tag, is_html, no_s
 use Rattle.tl_safe_fit.specs.Words.{is_among}
 use Rattle.tl_spec.specs.Lex.ByteClass.{is_void}
 use Rattle.tl_tree_safe.specs.Lists.{ListedWords, is_listed_value, linking_names, opaque_names, rel_key, rel_value}
+use Rattle.tl_tree_safe.specs.Values.{own_value}
 
 -- Characters
 
@@ -33,8 +34,12 @@ abbrev pub has_no_space : AttributeSpace → Bool
 has_no_space no_space = true
 has_no_space _ = false
 
-abbrev pub cleaned_attribute : Attribute → Attribute
-cleaned_attribute a = record a { value = cleaned a.value }
+-- what stays of a value at a key
+abbrev pub kept_value : ListedWords → List ℕ → List ℕ → List ℕ
+kept_value p key value = cleaned (own_value p key value)
+
+abbrev pub kept_attribute : ListedWords → Attribute → Attribute
+kept_attribute p a = record a { value = kept_value p a.key a.value }
 
 -- a listed key, with a value that may stand there
 abbrev pub is_listed_attribute : ListedWords → Attribute → Bool
@@ -44,7 +49,7 @@ is_listed_attribute p a =
 -- those that are listed, in their order. A value is judged as it is written
 abbrev pub kept_attributes : ListedWords → List Attribute → List Attribute
 kept_attributes p attributes =
-    filter (is_listed_attribute p) (map cleaned_attribute attributes)
+    filter (is_listed_attribute p) (map (kept_attribute p) attributes)
 
 abbrev pub has_key : List ℕ → Attribute → Bool
 has_key key a = bytes_eq a.key key

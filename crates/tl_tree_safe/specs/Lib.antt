@@ -1,4 +1,5 @@
 pub mod Lists
+pub mod Values
 pub mod Kept
 pub mod Fitted
 pub mod KeptFitted

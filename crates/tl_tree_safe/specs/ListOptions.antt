@@ -5,7 +5,7 @@ use Rattle.std.specs.List.{filter, list_any, slice_split}
 use Rattle.std.specs.Option.{option_map}
 use Rattle.std.specs.Str.{bytes_eq}
 use Rattle.tl_tree_safe.specs.Lists.{ListedWords}
-use Rattle.tl_safe_fit.specs.Words.{words_of}
+use Rattle.tl_safe_fit.specs.Words.{is_among, words_of}
 use Rattle.tl_tree_safe.specs.declared.word_lists.ListTexts.{ListTexts}
 use Rattle.tl_tree_safe.specs.declared.word_lists.WordLists.{WordLists}
 
@@ -51,10 +51,48 @@ list_options texts = record {
   id_prefix = text_of texts.id_prefix;
 }
 
--- the words of a text, or these where there is none
+-- Lists that are added to and taken from
+
+-- a text with `+` or `-` first changes a list; another one stands in its place
+abbrev pub changes_list : List ℕ → Bool
+changes_list [] = false
+changes_list (b ∷ text) = b == 43 || b == 45
+
+-- these words and this one, which stands behind them where it is none of them
+abbrev pub words_with : List (List ℕ) → List ℕ → List (List ℕ)
+words_with words word = if is_among words word then words else words ++ word ∷ []
+
+abbrev pub words_without : List (List ℕ) → List ℕ → List (List ℕ)
+words_without words word = filter (λ own. not (bytes_eq own word)) words
+
+-- what stands behind a mark that stands first
+abbrev pub behind : ℕ → List ℕ → Option (List ℕ)
+behind mark [] = None
+behind mark (b ∷ word) = if b == mark then Some word else None
+
+-- where one word stands behind `-`, or else one behind `+`
+abbrev pub changed_as : List (List ℕ) → List ℕ → Option (List ℕ) → Option (List ℕ) → List (List ℕ)
+changed_as words change (Some word) plus = words_without words word
+changed_as words change None (Some word) = words_with words word
+changed_as words change None None = words_with words change
+
+-- a word behind `-` goes, and one behind `+` or alone comes
+abbrev pub changed : List (List ℕ) → List ℕ → List (List ℕ)
+changed words change = changed_as words change (behind 45 change) (behind 43 change)
+
+-- one after the other
+abbrev pub changed_by : List (List ℕ) → List (List ℕ) → List (List ℕ)
+changed_by words [] = words
+changed_by words (change ∷ changes) = changed_by (changed words change) changes
+
+-- what a text says of these words
+abbrev pub said_over : List ℕ → List (List ℕ) → List (List ℕ)
+said_over text own = if changes_list text then changed_by own (words_in text) else words_in text
+
+-- the words that a text says, or these where there is none
 abbrev pub words_or_default : Option (List ℕ) → List (List ℕ) → List (List ℕ)
 words_or_default None own = own
-words_or_default (Some text) own = words_in text
+words_or_default (Some text) own = said_over text own
 
 abbrev pub prefix_or_default : Option (List ℕ) → List ℕ → List ℕ
 prefix_or_default None own = own

@@ -3,6 +3,7 @@
 use Rattle.std.specs.Char.{is_ascii_alphanumeric, is_ascii_digit, is_ascii_lowercase}
 use Rattle.std.specs.List.{list_all, list_any, starts_with}
 use Rattle.std.specs.Prelude.{Bool, List, [], codes, false, nat_lt, not, true, ℕ, ◌&&◌, ◌==◌, ◌||◌, ◌∷◌}
+use Rattle.std.specs.Str.{bytes_eq}
 use Rattle.tl_safe_fit.specs.Words.{is_among}
 
 -- the names of tags and the keys that may stand, the keys that hold links, what links begin with,
@@ -85,9 +86,9 @@ lists_plain_names p = list_all is_plain_name p.tags
 
 -- Links
 
--- printable ASCII but `"` and the space
+-- no control character of ASCII, no space and no `"`
 abbrev pub is_link_byte : ℕ → Bool
-is_link_byte b = nat_lt 32 b && nat_lt b 127 && not (b == 34)
+is_link_byte b = nat_lt 32 b && not (b == 34) && not (b == 127)
 
 -- a byte that makes another host of a `/` before it, as in `//host` and `/\host`
 abbrev pub leads_out : ℕ → Bool
@@ -121,25 +122,63 @@ abbrev pub is_relative : List ℕ → Bool
 is_relative [] = false
 is_relative (b ∷ link) = has_no_scheme (b ∷ link) && not (leaves_site (b ∷ link))
 
--- a value that begins as the policy lets links begin, or is a relative link where it lets these
--- stand, of printable ASCII alone
-abbrev pub is_listed_link : ListedWords → List ℕ → Bool
-is_listed_link p value =
-    (list_any (begins_link value) p.link_prefixes || (p.relative_links && is_relative value))
-    && list_all is_link_byte value
-
 -- Names that others refer to
 
 abbrev pub naming_keys : List (List ℕ)
-naming_keys = codes "id" ∷ codes "name" ∷ codes "class" ∷ []
+naming_keys = codes "id" ∷ codes "name" ∷ []
 
--- ASCII letters and digits, `-` and `_`
+abbrev pub class_key : List ℕ
+class_key = codes "class"
+
+-- the keys at which such names stand, one or more with white space between them
+abbrev pub referring_keys : List (List ℕ)
+referring_keys =
+    codes "for" ∷ codes "form" ∷ codes "headers" ∷ codes "itemref" ∷ codes "list" ∷
+    codes "popovertarget" ∷ codes "commandfor" ∷ codes "aria-activedescendant" ∷
+    codes "aria-controls" ∷ codes "aria-describedby" ∷ codes "aria-details" ∷
+    codes "aria-errormessage" ∷ codes "aria-flowto" ∷ codes "aria-labelledby" ∷
+    codes "aria-owns" ∷ []
+
+-- ASCII letters and digits, `-`, `.`, `:`, `_`, and all beyond ASCII
 abbrev pub is_own_byte : ℕ → Bool
-is_own_byte b = is_ascii_alphanumeric b || b == 45 || b == 95
+is_own_byte b =
+    is_ascii_alphanumeric b || b == 45 || b == 46 || b == 58 || b == 95 || nat_lt 127 b
 
 -- one word with the policy's prefix
 abbrev pub is_own_name : ListedWords → List ℕ → Bool
 is_own_name p value = starts_with ◌==◌ value p.id_prefix && list_all is_own_byte value
+
+-- the white space of ASCII
+abbrev pub is_space : ℕ → Bool
+is_space b = b == 32 || b == 9 || b == 10 || b == 12 || b == 13
+
+-- a text begins within a word, or with white space, or with a prefix
+abbrev pub has_front : List ℕ → Bool → List ℕ → Bool
+has_front prefix in_word [] = true
+has_front prefix in_word (b ∷ text) =
+    in_word || is_space b || starts_with ◌==◌ (b ∷ text) prefix
+
+-- each word of a text begins with a prefix, but for the one that has begun before it, if one has
+abbrev pub all_begin : List ℕ → Bool → List ℕ → Bool
+all_begin prefix in_word [] = true
+all_begin prefix in_word (b ∷ text) =
+    has_front prefix in_word (b ∷ text) && all_begin prefix (not (is_space b)) text
+
+-- all names in a text have the policy's prefix
+abbrev pub are_own_names : ListedWords → List ℕ → Bool
+are_own_names p text = all_begin p.id_prefix false text
+
+-- a link to another place in the page leads to a name with the policy's prefix
+abbrev pub leads_to_own : ListedWords → List ℕ → Bool
+leads_to_own p [] = true
+leads_to_own p (b ∷ name) = not (b == 35) || are_own_names p name
+
+-- a value that begins as the policy lets links begin, or is a relative link where it lets these
+-- stand, without control characters, spaces and `"`
+abbrev pub is_listed_link : ListedWords → List ℕ → Bool
+is_listed_link p value =
+    (list_any (begins_link value) p.link_prefixes || (p.relative_links && is_relative value))
+    && list_all is_link_byte value && leads_to_own p value
 
 -- Attributes
 
@@ -147,4 +186,5 @@ is_own_name p value = starts_with ◌==◌ value p.id_prefix && list_all is_own_
 abbrev pub is_listed_value : ListedWords → List ℕ → List ℕ → Bool
 is_listed_value p key value =
     (not (is_among p.link_keys key) || is_listed_link p value)
-    && (not (is_among naming_keys key) || is_own_name p value)
+    && (not (is_among naming_keys key || bytes_eq key class_key) || is_own_name p value)
+    && (not (is_among referring_keys key) || are_own_names p value)

@@ -1,5 +1,5 @@
 -- Which words no policy may list, and why.
-use Rattle.std.specs.Prelude.{Bool, List, None, Option, Some, [], codes, false, if◌then◌else◌, is_none, not, ℕ, ◌&&◌, ◌==◌, ◌||◌, ◌∷◌}
+use Rattle.std.specs.Prelude.{Bool, List, None, Option, Some, [], codes, false, if◌then◌else◌, is_none, nat_lt, not, ℕ, ◌&&◌, ◌==◌, ◌||◌, ◌∷◌}
 use Rattle.std.specs.List.{list_all, list_any, starts_with}
 use Rattle.std.specs.Option.{option_map, option_or}
 use Rattle.tl_safe_fit.specs.Words.{is_among}
@@ -49,7 +49,7 @@ key_reason link_keys key =
 
 -- printable ASCII but the space, `"`, `<` and `>`
 abbrev pub is_beginning_byte : ℕ → Bool
-is_beginning_byte b = is_link_byte b && not (b == 60) && not (b == 62)
+is_beginning_byte b = is_link_byte b && nat_lt b 127 && not (b == 60) && not (b == 62)
 
 -- what begins a link within a site
 abbrev pub begins_path : List ℕ → Bool

@@ -5,11 +5,11 @@ ghost use Rattle.tl_html_print.specs.Serialized.{serialized_attribute};
 ghost use Rattle.tl_tree.specs.Asked.{attribute_said, attributes_at};
 ghost use Rattle.tl_tree.specs.TreeView.{rows_in};
 ghost use Rattle.tl_tree_safe.specs.Inner.Attributes.{listed_written, with_value};
-ghost use Rattle.tl_tree_safe.specs.Kept.{cleaned_attribute, is_listed_attribute, kept_attributes};
+ghost use Rattle.tl_tree_safe.specs.Kept.{is_listed_attribute, kept_attribute, kept_attributes};
 ghost use Rattle.tl_tree_safe.specs.Policies.{listed_words};
 
-use crate::clean::{clean, is_clean};
 use crate::lists::Lists;
+use crate::values::{kept_value, stays_whole};
 use crate::words::is_among;
 use std::alloc::{AllocError, Global};
 use tl_html_print::write_escaped;
@@ -61,12 +61,12 @@ pub(crate) fn is_kept(
     attribute: &Attribute<'_>,
 ) -> Result<bool, AllocError>
     ensures { IfOk result (λ kept. kept ≡ is_listed_attribute (listed_words lists.now)
-        (cleaned_attribute (attribute_said attribute.now))) }
+        (kept_attribute (listed_words lists.now) (attribute_said attribute.now))) }
 {
-    if is_clean(attribute.value) {
+    if stays_whole(lists, attribute.key, attribute.value) {
         return Ok(is_listed(lists, attribute, attribute.value));
     }
-    let value = clean(alloc, attribute.value)?;
+    let value = kept_value(alloc, lists, attribute.key, attribute.value)?;
     Ok(is_listed(lists, attribute, &value))
 }
 
@@ -78,12 +78,13 @@ pub(crate) fn write_attribute(
     out: &mut Vec<u8>,
 ) -> Result<(), AllocError>
     ensures { OnOk result (out.new.items ≡ out.old.items ++ listed_written
-        (listed_words lists.now) (cleaned_attribute (attribute_said attribute.now))) }
+        (listed_words lists.now)
+        (kept_attribute (listed_words lists.now) (attribute_said attribute.now))) }
 {
-    if is_clean(attribute.value) {
+    if stays_whole(lists, attribute.key, attribute.value) {
         return write_listed(lists, attribute, attribute.value, out);
     }
-    let value = clean(alloc, attribute.value)?;
+    let value = kept_value(alloc, lists, attribute.key, attribute.value)?;
     write_listed(lists, attribute, &value, out)
 }
 

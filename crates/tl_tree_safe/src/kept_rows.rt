@@ -1,7 +1,7 @@
 //! Worked rows: pages, and what is kept of their trees.
 
 ghost use Rattle.std.specs.Prelude.{[], codes, ◌∷◌, ◌≡◌};
-ghost use Rattle.tl_tree_safe.specs.Examples.{kept_by, kept_in, marking_lists, relative_lists};
+ghost use Rattle.tl_tree_safe.specs.Examples.{kept_by, kept_in, marking_lists, naming_lists, relative_lists};
 ghost use Rattle.tl_tree_safe.specs.Kept.{cleaned};
 
 /// Elements by their names.
@@ -39,14 +39,38 @@ pub fn attributes()
         ≡ codes "<a href=\"https://a.b/\"></a>" }
     ensures script { kept_in "<a href=javascript:b>" ≡ codes "<a></a>" }
     ensures script_by_references { kept_in "<a href='java&Tab;script&colon;b'>" ≡ codes "<a></a>" }
+    ensures script_behind_blanks { kept_by relative_lists "<a href=' &Tab;JavaScript:b'>"
+        ≡ codes "<a></a>" }
+    ensures link_with_blanks { kept_in "<a href=' https://a.b/ '>"
+        ≡ codes "<a href=\"https://a.b/\"></a>" }
+    ensures link_with_a_tab { kept_in "<a href='ht&Tab;tps://a.b/'>"
+        ≡ codes "<a href=\"https://a.b/\"></a>" }
+    ensures link_in_upper_case { kept_in "<a href=HTTPS://A.b/C:D>"
+        ≡ codes "<a href=\"https://A.b/C:D\"></a>" }
+    ensures link_with_a_space { kept_in "<a href='https://a b'>" ≡ codes "<a></a>" }
     ensures path { kept_in "<a href=/a>" ≡ codes "<a href=\"/a\"></a>" }
+    ensures another_host_by_a_tab { kept_in "<a href='/&Tab;/a'>" ≡ codes "<a></a>" }
     ensures another_host { kept_in "<a href=//a>" ≡ codes "<a></a>" }
     ensures another_host_by_a_backslash { kept_in "<a href='/&bsol;a'>" ≡ codes "<a></a>" }
     ensures relative { kept_by relative_lists "<a href=a&amp;b.png>"
         ≡ codes "<a href=\"a&amp;b.png\"></a>" }
     ensures relative_with_a_scheme { kept_by relative_lists "<a href='a&colon;b'>" ≡ codes "<a></a>" }
-    ensures own_name { kept_in "<p id=user-a>" ≡ codes "<p id=\"user-a\"></p>" }
-    ensures another_name { kept_in "<p id=a>" ≡ codes "<p></p>" }
+{}
+
+/// Names that others refer to.
+pub fn names()
+    ensures name { kept_in "<p id=a.b:1>" ≡ codes "<p id=\"user-a.b:1\"></p>" }
+    ensures name_with_the_prefix { kept_in "<p id=user-a>" ≡ codes "<p id=\"user-a\"></p>" }
+    ensures no_name { kept_in "<p id>" ≡ codes "<p></p>" }
+    ensures two_words { kept_in "<p id='a b'>" ≡ codes "<p></p>" }
+    ensures link { kept_by naming_lists "<a href=#a>" ≡ codes "<a href=\"#user-a\"></a>" }
+    ensures link_with_the_prefix { kept_by naming_lists "<a href=#user-a>"
+        ≡ codes "<a href=\"#user-a\"></a>" }
+    ensures link_to_the_top { kept_by naming_lists "<a href=#>" ≡ codes "<a href=\"#\"></a>" }
+    ensures link_to_another_page { kept_by naming_lists "<a href=/#a>"
+        ≡ codes "<a href=\"/#a\"></a>" }
+    ensures references { kept_by naming_lists "<p headers='a  user-b c'>"
+        ≡ codes "<p headers=\"user-a  user-b user-c\"></p>" }
 {}
 
 /// Links are marked where the policy wants it.

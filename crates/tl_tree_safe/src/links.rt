@@ -4,11 +4,11 @@ ghost use Rattle.std.specs.List.{list_all, list_any};
 ghost use Rattle.tl_safe_fit.specs.Words.{words_of};
 ghost use Rattle.tl_tree_safe.specs.Lists.{begins_link, has_no_scheme, is_link_byte, is_relative, is_unschemed, leads_out, leaves_site};
 
-/// Whether a byte is printable ASCII but `"` and the space.
+/// Whether a byte is no control character of ASCII, no space and no `"`.
 pub(crate) fn is_link_byte(byte: u8) -> bool
     ensures { result ≡ is_link_byte byte }
 {
-    byte > 32 && byte < 127 && byte != b'"'
+    byte > 32 && byte != b'"' && byte != 127
 }
 
 /// Whether all bytes of a value may stand in a link.

@@ -1,11 +1,12 @@
 //! Lists of words, by which it is judged what may stand.
 ghost use Rattle.std.specs.Prelude.{◌≡◌};
 ghost use Rattle.std.specs.List.{list_all, starts_with};
-ghost use Rattle.tl_safe_fit.specs.Words.{is_among};
-ghost use Rattle.tl_tree_safe.specs.Lists.{is_listed_link, is_listed_value, is_own_byte, is_own_name, naming_keys};
+ghost use Rattle.tl_tree_safe.specs.Lists.{is_listed_link, is_listed_value, is_own_byte, is_own_name};
 ghost use Rattle.tl_tree_safe.specs.Policies.{listed_words};
 
 use crate::links::{begins_link, has_link_bytes, is_relative};
+use crate::names::{is_naming_key, is_referring_key};
+use crate::own_names::{all_begin, leads_to_own};
 use crate::words::is_among;
 
 /// What a policy lists. Lists of your own begin best with others, as
@@ -26,22 +27,21 @@ pub struct Lists<'w> {
     /// Whether `rel="nofollow noopener"` is put on each link of `a` and `area`, in place of another
     /// `rel`. The key `rel` has to be listed then, and not as one that holds links.
     pub nofollow_links: bool,
-    /// What the values of `id`, `name` and `class` begin with.
+    /// What stands in front of names: the values of `id` and `name` get it, and so do links and
+    /// other references to them. The values of `class` begin with it.
     pub id_prefix: &'w str,
-}
-
-// Whether others refer to the values of a key.
-fn is_naming_key(key: &[u8]) -> bool
-    ensures { result ≡ is_among naming_keys key.now }
-{
-    key == b"id".as_slice() || key == b"name".as_slice() || key == b"class".as_slice()
 }
 
 // Whether a byte stands in a name that others refer to.
 fn is_own_byte(byte: u8) -> bool
     ensures { result ≡ is_own_byte byte }
 {
-    byte.is_ascii_alphanumeric() || byte == b'-' || byte == b'_'
+    byte.is_ascii_alphanumeric()
+        || byte == b'-'
+        || byte == b'.'
+        || byte == b':'
+        || byte == b'_'
+        || byte > 127
 }
 
 // Whether all bytes do.
@@ -63,6 +63,7 @@ impl<'w> Lists<'w> {
     {
         (begins_link(self.link_prefixes, value) || (self.relative_links && is_relative(value)))
             && has_link_bytes(value)
+            && leads_to_own(self, value)
     }
 
     // Whether a value is one word with the prefix.
@@ -77,6 +78,7 @@ impl<'w> Lists<'w> {
         ensures { result ≡ is_listed_value (listed_words self.now) key.now value.now }
     {
         (!is_among(self.link_keys, key) || self.lists_link(value))
-            && (!is_naming_key(key) || self.has_prefix(value))
+            && (!(is_naming_key(key) || key == b"class".as_slice()) || self.has_prefix(value))
+            && (!is_referring_key(key) || all_begin(self.id_prefix.as_bytes(), value))
     }
 }

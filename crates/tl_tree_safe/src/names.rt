@@ -3,7 +3,7 @@ ghost use Rattle.std.specs.List.{list_all};
 ghost use Rattle.std.specs.Prelude.{◌≡◌};
 ghost use Rattle.tl_safe_fit.specs.Words.{is_among, words_of};
 ghost use Rattle.tl_tree_safe.specs.Inner.Bytes.{has_class};
-ghost use Rattle.tl_tree_safe.specs.Lists.{is_word_of, opaque_names, structural_names};
+ghost use Rattle.tl_tree_safe.specs.Lists.{is_word_of, naming_keys, opaque_names, referring_keys, structural_names};
 ghost use Rattle.tl_tree_safe.specs.Refusals.{active_keys, active_schemes, begins_path, begins_with_any, has_colon, has_scheme, known_link_keys, part_names};
 
 use crate::links::is_link_byte;
@@ -100,6 +100,24 @@ static KNOWN_LINK_KEYS: [&str; 17] = [
     "icon",
 ];
 
+static REFERRING_KEYS: [&str; 15] = [
+    "for",
+    "form",
+    "headers",
+    "itemref",
+    "list",
+    "popovertarget",
+    "commandfor",
+    "aria-activedescendant",
+    "aria-controls",
+    "aria-describedby",
+    "aria-details",
+    "aria-errormessage",
+    "aria-flowto",
+    "aria-labelledby",
+    "aria-owns",
+];
+
 static ACTIVE_SCHEMES: [&str; 7] = [
     "javascript:",
     "vbscript:",
@@ -117,7 +135,9 @@ fn has_class(class: ByteClass, byte: u8) -> bool
     match class {
         ByteClass::TagName => byte.is_ascii_lowercase() || byte.is_ascii_digit(),
         ByteClass::AttributeKey => byte.is_ascii_lowercase() || byte == b'-',
-        ByteClass::OfBeginning => is_link_byte(byte) && byte != b'<' && byte != b'>',
+        ByteClass::OfBeginning => {
+            is_link_byte(byte) && byte < 127 && byte != b'<' && byte != b'>'
+        }
     }
 }
 
@@ -176,6 +196,20 @@ pub(crate) fn is_known_link_key(key: &[u8]) -> bool
     ensures { result ≡ is_among known_link_keys key.now }
 {
     is_among(&KNOWN_LINK_KEYS, key)
+}
+
+/// Whether others refer to the values of a key.
+pub(crate) fn is_naming_key(key: &[u8]) -> bool
+    ensures { result ≡ is_among naming_keys key.now }
+{
+    key == b"id".as_slice() || key == b"name".as_slice()
+}
+
+/// Whether the values of a key refer to such values.
+pub(crate) fn is_referring_key(key: &[u8]) -> bool
+    ensures { result ≡ is_among referring_keys key.now }
+{
+    is_among(&REFERRING_KEYS, key)
 }
 
 /// Whether a word begins a link within a site.

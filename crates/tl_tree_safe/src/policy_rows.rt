@@ -1,6 +1,7 @@
 //! Worked rows: lists, and the first word for which they are no policy.
 
 ghost use Rattle.std.specs.Prelude.{None, Some, [], codes, true, ◌∷◌, ◌≡◌};
+ghost use Rattle.tl_tree_safe.specs.ListOptions.{said_over};
 ghost use Rattle.tl_tree_safe.specs.OwnLists.{blog_lists};
 ghost use Rattle.tl_tree_safe.specs.Refusals.{first_refusal};
 ghost use Rattle.tl_tree_safe.specs.declared.refusal.Reason.TheVariants.{ActiveScheme, LinkKey, MalformedTag, NoCaption, NoCell, NoRow, NoScheme, NoTable, NoTableBody, OpaqueTag, ScriptKey, StructuralTag, UnlistedMark};
@@ -30,6 +31,18 @@ pub fn attributes()
         ≡ Some (codes "java", NoScheme) }
     ensures mark { first_refusal (record blog_lists { nofollow_links = true })
         ≡ Some (codes "rel", UnlistedMark) }
+{}
+
+/// Lists that are added to and taken from.
+pub fn changes()
+    ensures said { said_over (codes "p,i") (codes "b" ∷ codes "p" ∷ [])
+        ≡ codes "p" ∷ codes "i" ∷ [] }
+    ensures added { said_over (codes "+i,p,b") (codes "b" ∷ codes "p" ∷ [])
+        ≡ codes "b" ∷ codes "p" ∷ codes "i" ∷ [] }
+    ensures taken { said_over (codes "-b,+i,-u") (codes "b" ∷ codes "p" ∷ [])
+        ≡ codes "p" ∷ codes "i" ∷ [] }
+    ensures added_again { said_over (codes "-b,+b") (codes "b" ∷ codes "p" ∷ [])
+        ≡ codes "p" ∷ codes "b" ∷ [] }
 {}
 
 /// Tables without their parts, and parts without a table.

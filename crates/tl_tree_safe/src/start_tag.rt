@@ -7,7 +7,7 @@ ghost use Rattle.tl_tree.specs.Asked.{attribute_said, attributes_at};
 ghost use Rattle.tl_tree.specs.TreeView.{rows_in};
 ghost use Rattle.tl_tree_safe.specs.Inner.Attributes.{beside_written, is_kept_target, marked_attributes};
 ghost use Rattle.tl_tree_safe.specs.Inner.Walk.{start_at};
-ghost use Rattle.tl_tree_safe.specs.Kept.{cleaned_attribute, has_key, is_beside_mark, is_marked_link, kept_attributes, mark, marked_where};
+ghost use Rattle.tl_tree_safe.specs.Kept.{has_key, is_beside_mark, is_marked_link, kept_attribute, kept_attributes, mark, marked_where};
 ghost use Rattle.tl_tree_safe.specs.Lists.{linking_names};
 ghost use Rattle.tl_tree_safe.specs.Policies.{listed_words};
 
@@ -30,7 +30,7 @@ fn is_target(
     attribute: &Attribute<'_>,
 ) -> Result<bool, AllocError>
     ensures { IfOk result (λ found. found ≡ is_kept_target (listed_words lists.now)
-        (cleaned_attribute (attribute_said attribute.now))) }
+        (kept_attribute (listed_words lists.now) (attribute_said attribute.now))) }
 {
     if attribute.key != b"href".as_slice() {
         return Ok(false);
@@ -81,7 +81,8 @@ fn write_beside(
     out: &mut Vec<u8>,
 ) -> Result<(), AllocError>
     ensures { OnOk result (out.new.items ≡ out.old.items ++ beside_written
-        (listed_words lists.now) (cleaned_attribute (attribute_said attribute.now))) }
+        (listed_words lists.now)
+        (kept_attribute (listed_words lists.now) (attribute_said attribute.now))) }
 {
     if attribute.key == b"rel".as_slice() {
         return Ok(());

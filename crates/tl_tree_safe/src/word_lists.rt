@@ -3,13 +3,15 @@ ghost use Rattle.std.specs.Prelude.{◌≡◌, ◌++◌, ◌∷◌, ◌<◌, [],
 ghost use Rattle.std.specs.List.{slice_split};
 ghost use Rattle.tl_safe_fit.specs.Words.{words_of};
 ghost use Rattle.tl_tree_safe.specs.Policies.{listed_words};
-ghost use Rattle.tl_tree_safe.specs.ListOptions.{has_rel, is_comma, lists_in, lists_or_default, nofollow_line, option_line, policy_text, prefix_or_default, list_options, relative_line, text_of, with_rel, words_in, remaining_words, words_or_default};
+ghost use Rattle.tl_tree_safe.specs.ListOptions.{has_rel, is_comma, lists_in, lists_or_default, nofollow_line, option_line, policy_text, prefix_or_default, list_options, relative_line, said_over, text_of, with_rel, words_in, remaining_words, words_or_default};
 
+use crate::list_changes::{changed_by, changes_list, copy_words};
 use crate::lists::Lists;
 use std::alloc::{AllocError, Global};
 
 /// The texts of lists, where they are said: words with commas between them, and a prefix; and the
-/// lists that count where they are not.
+/// lists that count where they are not. A text with `+` or `-` first changes such a list: a word
+/// behind `-` goes, and one behind `+` or alone comes.
 #[derive(Clone, Copy)]
 pub struct ListTexts<'c> {
     pub own: Lists<'static>,
@@ -49,15 +51,16 @@ fn split_words<'c>(alloc: Global, text: &'c str) -> Result<Vec<&'c str>, AllocEr
     Ok(found)
 }
 
-// These words.
-fn copy_words<'c>(alloc: Global, own: &[&'c str]) -> Result<Vec<&'c str>, AllocError>
-    ensures { IfOk result (λ found. words_of found.items ≡ words_of own.now) }
+// What a text says of the words of a list.
+fn said_over<'c>(alloc: Global, text: &'c str, own: &[&'c str]) -> Result<Vec<&'c str>, AllocError>
+    ensures { IfOk result (λ found. words_of found.items ≡ said_over text.now (words_of own.now)) }
 {
-    let mut found = Vec::new(alloc);
-    for word in own {
-        found.push(*word)?;
+    let words = split_words(alloc, text)?;
+    if changes_list(text.as_bytes()) {
+        let found = changed_by(alloc, own, &words)?;
+        return Ok(found);
     }
-    Ok(found)
+    Ok(words)
 }
 
 // The words of a list that is said, or else the policy's own.
@@ -70,7 +73,7 @@ fn list<'c>(
         words_of found.items ≡ words_or_default (text_of text.entry) (words_of own.now)) }
 {
     match text {
-        Some(text) => split_words(alloc, text),
+        Some(text) => said_over(alloc, text, own),
         None => copy_words(alloc, own),
     }
 }

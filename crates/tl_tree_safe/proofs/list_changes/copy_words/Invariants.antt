@@ -1,6 +1,6 @@
 use Rattle.std.proofs.Common.{◌≡◌, ◌++◌, drop}
 use Rattle.tl_safe_fit.specs.Words.{words_of}
-use Rattle.tl_tree_safe.proofs.word_lists.copy_words.Given as goal
+use Rattle.tl_tree_safe.proofs.list_changes.copy_words.Given as goal
 
 -- the words so far, and then those that are left
 abbrev pub invariant-loop-word : goal.invariant-loop-word
