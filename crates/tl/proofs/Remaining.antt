@@ -3,7 +3,7 @@ use Rattle.std.proofs.Common.{◌≡◌, ℕ, ◌<◌, Bool, true, false, ◌⊎
 use Rattle.std.specs.List.{slice_get, AllByRecursion}
 use Rattle.tl_spec.specs.Tree.Document.{Node, Tag, Raw, Comment, TagNode}
 use Rattle.tl_spec.specs.Walk.{Cycle, Dangling, Event, Walk, end, events, all_tags, faulty, handle_walk, leaves, meets, meets_comment, meets_fault, meets_tag, meets_text, passes_tag, stands_on, TreeFault, walk}
-use Rattle.tl_spec.proofs.Walk.Events.{Enters, Enters-walk}
+use Rattle.tl_spec.proofs.Walk.Events.{Enters}
 use Rattle.tl_spec.proofs.Walk.Walks.{walk-cons, walk-nil}
 use Rattle.tl_table.specs.declared.errors.TreeError.TheVariants.{Dangling as DanglingError, Cycle as CycleError, OutOfMemory}
 use Rattle.tl.specs.declared.walk.Frame.{Frame}
@@ -168,9 +168,6 @@ fewer-error r q error fails over = fewer-at r q error (step r) refl fails over
 abbrev pub IsEntered : Remaining → Type 0
 IsEntered r = Enters all_tags r.inside × AllByRecursion (λ tag. Enters all_tags tag.more) r.around
 
-pub entered-begun : (nodes : List Node) (hs : List ℕ) → IsEntered (record { inside = walk all_tags nodes [] hs; around = [] })
-entered-begun nodes hs = (Enters-walk all_tags nodes [] hs, tt)
-
 module _ (e : Event) (after : Remaining) where
   entered-at : (f : Event) (left : Remaining) → next_at f left ≡ next_at e after → IsEntered left → IsEntered after
   entered-at f left s enters = subst IsEntered (next_same f e left after s).1 enters
@@ -187,9 +184,6 @@ module _ (e : Event) (after : Remaining) where
       entered-at (meets h (Tag own)) (record { inside = children; around = record { own = own; more = more } ∷ outer }) s (here.1, (here.2, all))
   entered-in outer (passes_tag h own more) s here all = entered-at (meets h (Tag own)) (record { inside = more; around = outer }) s (here.1, all)
   entered-in outer (meets_fault f more) s here all = entered-at (faulty f) nothing_left s (tt, tt)
-
-pub entered-step : (r : Remaining) (e : Event) (after : Remaining) → step r ≡ Some (e, after) → IsEntered r → IsEntered after
-entered-step r e after s all = entered-in e after r.around r.inside s all.0 all.1
 
 -- what is left by the place of a walk
 

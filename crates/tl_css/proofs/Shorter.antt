@@ -65,9 +65,6 @@ gap_within n s h =
     let step : (r : Read Bool) → Le (length s) r → Le n r = elim [ Ok p ↦ λ le. omega arith | Err w ↦ λ le. tt ] in
     step (gap_at s) (gap_le s)
 
-name_le : (s : List ℕ) → Le (length s) (name_at s)
-name_le s = let le = run_le None s in if_both (λ (r : Read (List ℕ)). Le (length s) r) (begins_name s) _ _ (λ _. le) (λ _. tt)
-
 name_within : (n : ℕ) (s : List ℕ) → length s ≤ n → Le n (name_at s)
 name_within n s h = let le = run_le None s in if_both (λ (r : Read (List ℕ)). Le n r) (begins_name s) _ _ (λ _. let more : length (run_at None s).1 ≤ n = omega arith in more) (λ _. tt)
 

@@ -117,9 +117,6 @@ tag_decides b last t g h e = ap (λ (x : Bool). if x then mode_at b last (group 
 pub below_three : (low : ℕ) → (3 ≤ low → ⊥) → low ≤ 2
 below_three low n = elim (cases_order low 3) [ inl e ↦ absurd (n (omega (arith, e))) | inr o ↦ elim o [ inl l ↦ omega (arith, l) | inr l ↦ absurd (n (omega (arith, l))) ] ]
 
-pub low_two : (low : ℕ) → 2 ≤ low → low ≤ 3 → (3 ≤ low → ⊥) → low ≡ 2
-low_two low two most n = elim (cases_order low 2) [ inl e ↦ e | inr o ↦ elim o [ inl l ↦ absurd (omega (arith, two, l)) | inr l ↦ absurd (n (omega (arith, l))) ] ]
-
 module _ (b : Builder) (S L : List ℕ) (N : ℕ) (ok : Bool) (own : Mode) where
   abbrev pub ResetTo : ℕ → Path → Mode → Type 0
   ResetTo low path mode = (m : ℕ) × (tg : Tag) × Seated S L N ok low m tg path × Fits low tg mode own

@@ -129,10 +129,6 @@ has_number_within k stops stopped s h =
 
 -- what is popped
 
--- one frame
-pub popped_is : (f o : P.Frame) (os : List P.Frame) → W.popped (path_of (f ∷ o ∷ os)) ≡ path_of (frames_of (P.popped f (o ∷ os)))
-popped_is f o os = refl
-
 -- frames while a test holds: at most as many as a path is long
 module _ (test : W.Frame → Bool) (g f : P.Frame) where
   pub stays_on : (os fs : List P.Frame) → test (frame_of f) ≡ false → W.settled_while test (frame_of g ∷ path_of os) (path_of (f ∷ fs)) ≡ path_of (f ∷ fs)

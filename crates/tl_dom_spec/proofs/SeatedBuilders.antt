@@ -272,14 +272,6 @@ module _ (P : Entry → Type 0) where
   moved-kept k new tag [] entries n w h = relisted-kept k new entries w h
   moved-kept k new tag (clone ∷ clones) entries n w h = behind-kept clone.number (formatting new tag) (unlisted k entries) n (unlisted-kept k entries h)
 
-abbrev FreeEntry : Entry → Type 0
-FreeEntry marker = ⊤
-FreeEntry (formatting k tag) = IsFree tag
-
-free_entry : (S L : List ℕ) (e : Entry) → Kept S L e → FreeEntry e
-free_entry S L marker h = tt
-free_entry S L (formatting k tag) h = h.1
-
 -- attributes are added
 
 alike_fits : (low : ℕ) (tg own : Tag) (mode original : Mode) → Alike [] [] 0 true tg own → Fits low tg mode original → Fits low own mode original

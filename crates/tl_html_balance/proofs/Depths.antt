@@ -2,7 +2,7 @@
 use Rattle.std.proofs.Common.{◌≡◌, ℕ, suc, ◌+◌, ◌<◌, ◌≤◌, min, Bool, true, false, not, ◌||◌, List, [], ◌∷◌, Option, Some, None, codes, option_map, length, take, drop, get_or, refl, ap, sym, ◌∙◌, arith, zero-add, length-take, if◌then◌else◌}
 use Rattle.std.specs.Str.{bytes_eq}
 use Rattle.std.proofs.lemmas.List.{drop_all, drop_more, get_or-take}
-use Rattle.tl_html_spec.specs.Balanced.{Names, depth, depth_in, is_foreign, is_innermost, is_one_of, leading, looked_at, never}
+use Rattle.tl_html_spec.specs.Balanced.{Names, depth, depth_in, is_foreign, is_innermost, is_one_of, looked_at, never}
 use Rattle.tl_html_balance.specs.Classes.{is}
 use Rattle.tl_html_balance.specs.Inner.Rules.{innermost_passes}
 use Rattle.tl_html_balance.specs.declared.class.TheConstants as class
@@ -86,38 +86,13 @@ depth-within found stops names n e =
 
 -- those on top
 
-pub leading-passes : (test : List ℕ → Bool) (names : Names) (d : ℕ) → d < length names → test (get_or names d []) ≡ true → d + leading test (drop d names) ≡ (d + 1) + leading test (drop (d + 1) names)
-leading-passes test names d h t =
-    let here : leading test (drop d names) ≡ suc (leading test (drop (d + 1) names)) =
-    ap (leading test) (drop_more names d [] h) ∙ ap (λ (v : Bool). if v then suc (leading test (drop (d + 1) names)) else 0) t in
-    omega arith
-
-pub leading-stops : (test : List ℕ → Bool) (names : Names) (d : ℕ) → d < length names → test (get_or names d []) ≡ false → d + leading test (drop d names) ≡ d
-leading-stops test names d h t =
-    let here : leading test (drop d names) ≡ 0 =
-    ap (leading test) (drop_more names d [] h) ∙ ap (λ (v : Bool). if v then suc (leading test (drop (d + 1) names)) else 0) t in
-    omega arith
-
-pub leading-ends : (test : List ℕ → Bool) (names : Names) (d : ℕ) → length names ≤ d → d + leading test (drop d names) ≡ d
-leading-ends test names d h =
-    let here : leading test (drop d names) ≡ 0 = ap (leading test) (drop_all d names h) in
-    omega arith
-
 one_more : (v : Bool) (n most : ℕ) → n ≤ most → (if v then suc n else 0) ≤ suc most
 one_more true n most h = omega arith
 one_more false n most h = omega arith
 
-pub leading-within : (test : List ℕ → Bool) (names : Names) → leading test names ≤ length names
-leading-within test [] = omega arith
-leading-within test (name ∷ names) = one_more (test name) (leading test names) (length names) (leading-within test names)
-
 pub innermost-none : (test : List ℕ → Bool) (names : Names) → length names ≡ 0 → false ≡ innermost_passes test names
 innermost-none test [] e = refl
 innermost-none test (name ∷ names) e = absurd (omega arith)
-
-pub innermost-some : (test : List ℕ → Bool) (names : Names) → 0 < length names → test (get_or names 0 []) ≡ innermost_passes test names
-innermost-some test [] h = absurd (omega arith)
-innermost-some test (name ∷ names) h = refl
 
 -- inside `svg` or `math`
 

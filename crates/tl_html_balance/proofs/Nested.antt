@@ -26,16 +26,6 @@ nested_parts tag tags bytes h =
       around = outer.1;
     }
 
-pub nested_from : (tag : OpenTag) (tags : List OpenTag) (bytes : List ℕ) → Nested tag tags bytes → are_nested (tag ∷ tags) bytes ≡ true
-nested_from tag tags bytes h =
-    let name : List ℕ = drop tag.start bytes in
-    let own : says_classes tag tags name ≡ true =
-    and_from (tag.classes == classes_of name) (tag.all_classes == bit_or tag.classes (all_classes tags))
-    (eq-eqb tag.classes (classes_of name) h.known) (eq-eqb tag.all_classes (bit_or tag.classes (all_classes tags)) h.all) in
-    and_from (nat_le tag.start (length bytes) && says_classes tag tags name) (are_nested tags (take tag.start bytes))
-    (and_from (nat_le tag.start (length bytes)) (says_classes tag tags name) (le-leb tag.start (length bytes) h.within) own)
-    h.around
-
 pub names-length : (tags : List OpenTag) (bytes : List ℕ) → length (names_in tags bytes) ≡ length tags
 names-length [] bytes = refl
 names-length (tag ∷ tags) bytes = ap suc (names-length tags (take tag.start bytes))
@@ -78,16 +68,6 @@ pub pushed-names : (tag : OpenTag) (tags : List OpenTag) (bytes name : List ℕ)
 pushed-names tag tags bytes name e =
     ap (λ (own : List ℕ). own ∷ names_in tags (take tag.start (bytes ++ name))) (drop_at bytes name tag.start (sym e))
     ∙ ap (λ (more : List ℕ). name ∷ names_in tags more) (take_at bytes name tag.start (sym e))
-
-pub pushed-nested : (tag : OpenTag) (tags : List OpenTag) (bytes name : List ℕ) → tag.start ≡ length bytes → tag.classes ≡ classes_of name → tag.all_classes ≡ bit_or tag.classes (all_classes tags) → are_nested tags bytes ≡ true
-    → are_nested (tag ∷ tags) (bytes ++ name) ≡ true
-pushed-nested tag tags bytes name e known all h =
-    nested_from tag tags (bytes ++ name) (record {
-      within = omega (arith, length-append bytes name);
-      known = known ∙ sym (ap classes_of (drop_at bytes name tag.start (sym e)));
-      all = all;
-      around = ap (are_nested tags) (take_at bytes name tag.start (sym e)) ∙ h;
-    })
 
 -- where a name ends
 

@@ -104,9 +104,6 @@ table_cell_bound = one_of class.CELL_BOUND (codes "td th caption template") refl
 pub html_or_head : is class.HTML_OR_HEAD ≡ is_one_of (codes "html head")
 html_or_head = one_of class.HTML_OR_HEAD (codes "html head") refl refl
 
-pub html_or_body : is class.HTML_OR_BODY ≡ is_one_of (codes "html body")
-html_or_body = one_of class.HTML_OR_BODY (codes "html body") refl refl
-
 pub any_foreign : is class.FOREIGN_BOUND ≡ is_one_of (codes "svg math foreignobject")
 any_foreign = one_of class.FOREIGN_BOUND (codes "svg math foreignobject") refl refl
 

@@ -2,9 +2,9 @@
 use Rattle.std.proofs.Common.{◌≡◌, ℕ, zero, suc, ◌+◌, ◌<◌, ◌≤◌, Bool, true, false, List, [], ◌∷◌, ◌++◌, Option, Some, None, option_map, length, take, drop, map, get_or, refl, ap, sym, ◌∙◌, arith, add-one, if◌then◌else◌}
 use Rattle.std.proofs.lemmas.List.{drop-drop, drop_more, map-append}
 use Rattle.tl_html_spec.specs.HtmlTokenizer.{HtmlToken, EndTag}
-use Rattle.tl_html_spec.specs.Balanced.{Closing, Names, Rule, carried_out, closing, innermost, or_none, then_closing, when}
+use Rattle.tl_html_spec.specs.Balanced.{Closing, Names, Rule, carried_out, closing, then_closing, when}
 use Rattle.tl_html_balance.specs.Classes.{is}
-use Rattle.tl_html_balance.specs.Inner.Rules.{innermost_passes, rule_of, rules_for, total}
+use Rattle.tl_html_balance.specs.Inner.Rules.{rule_of, rules_for, total}
 use Rattle.tl_html_balance.specs.declared.rule.Reach.{Reach}
 
 take_none : (n : ℕ) → take {A = List ℕ} n [] ≡ []
@@ -45,42 +45,4 @@ at_row rows n tags i row lt e =
     ap (λ (rest : List (ℕ × Reach)). total (rules_for rest n) tags) (drop_more rows i row lt)
     ∙ ap (λ (r : ℕ × Reach). total (rules_for (r ∷ drop (i + 1) rows) n) tags) (sym e)
 
-pub row-passes : (rows : List (ℕ × Reach)) (n : List ℕ) (names : Names) (closed i : ℕ) (row : ℕ × Reach) → i < length rows → row ≡ get_or rows i row → is row.0 n ≡ false →
-    closed + total (rules_for (drop i rows) n) (drop closed names) ≡ closed + total (rules_for (drop (i + 1) rows) n) (drop closed names)
-row-passes rows n names closed i row lt e without =
-    let rest : List Rule = rules_for (drop (i + 1) rows) n in
-    let tags : Names = drop closed names in
-    let none : 0 + total rest tags ≡ total rest tags = omega arith in
-    ap (λ k. closed + k)
-    (at_row rows n tags i row lt e
-    ∙ ap (λ (v : Bool). (if v then rule_of row.1 n tags else 0) + total rest (drop (if v then rule_of row.1 n tags else 0) tags)) without
-    ∙ none)
-
-pub row-closes : (rows : List (ℕ × Reach)) (n : List ℕ) (names : Names) (closed i k : ℕ) (row : ℕ × Reach) → i < length rows → row ≡ get_or rows i row → is row.0 n ≡ true → k ≡ rule_of row.1 n (drop closed names) →
-    closed + total (rules_for (drop i rows) n) (drop closed names) ≡ (closed + k) + total (rules_for (drop (i + 1) rows) n) (drop (closed + k) names)
-row-closes rows n names closed i k row lt e given same =
-    let rest : List Rule = rules_for (drop (i + 1) rows) n in
-    let tags : Names = drop closed names in
-    let sum : closed + (k + total rest (drop (closed + k) names)) ≡ (closed + k) + total rest (drop (closed + k) names) = omega arith in
-    ap (λ m. closed + m)
-    (at_row rows n tags i row lt e
-    ∙ ap (λ (v : Bool). (if v then rule_of row.1 n tags else 0) + total rest (drop (if v then rule_of row.1 n tags else 0) tags)) given
-    ∙ ap (λ m. m + total rest (drop m tags)) (sym same)
-    ∙ ap (λ (left : Names). k + total rest left) (drop-drop k closed names))
-    ∙ sum
-
 -- one rule
-
-pub nearest-some : (o : Option ℕ) (d : ℕ) → Some d ≡ o → d + 1 ≡ or_none (option_map (λ n. suc n) o)
-nearest-some o d e = add-one d ∙ ap (λ (x : Option ℕ). or_none (option_map (λ n. suc n) x)) e
-
-pub nearest-none : (o : Option ℕ) → None ≡ o → 0 ≡ or_none (option_map (λ n. suc n) o)
-nearest-none o e = ap (λ (x : Option ℕ). or_none (option_map (λ n. suc n) x)) e
-
-pub innermost-counts : (test : List ℕ → Bool) (tags : Names) (v : Bool) → innermost_passes test tags ≡ v → (if v then 1 else 0) ≡ innermost test tags
-innermost-counts test [] v e = sym (ap (λ (w : Bool). if w then 1 else 0) e)
-innermost-counts test (name ∷ tags) v e = sym (ap (λ (w : Bool). if w then 1 else 0) e)
-
-pub innermost-within : (test : List ℕ → Bool) (tags : Names) → innermost_passes test tags ≡ true → 1 ≤ length tags
-innermost-within test [] e = absurd (cc)
-innermost-within test (name ∷ tags) e = omega arith

@@ -18,10 +18,6 @@ or_left : (a b : Bool) → a ≡ true → (a || b) ≡ true
 or_left true b e = refl
 or_left false b e = absurd (true≢false (sym e))
 
-pub or_both : (a b : Bool) → (a || b) ≡ false → (a ≡ false) × (b ≡ false)
-or_both true b e = absurd (true≢false e)
-or_both false b e = (refl, e)
-
 name-first : (b : ℕ) (n : List ℕ) → is_name (b ∷ n) ≡ true → is_name_byte b ≡ true
 name-first b [] h = h
 name-first b (c ∷ n) h = or_left (is_ascii_alphanumeric b) (b == 59) (and_parts (is_ascii_alphanumeric b) (is_name (c ∷ n)) h).0

@@ -108,9 +108,6 @@ pub said_char : (m : Mode) (b : ℕ) → has_references m ≡ false → said m b
 said_char mode.Data b h = absurd (true≢false h)
 said_char _ b h = refl
 
-is_some_byte : ℕ → Bool
-is_some_byte b = not (b == 0)
-
 pub literal_more : (m : Mode) (z : List ℕ) (b : ℕ) → literal m (z ++ b ∷ []) ≡ literal m z ++ said m b
 literal_more m z b = flat_map-append (said m) z (b ∷ []) ∙ ap (λ x. literal m z ++ x) (append-nil (said m b))
 

@@ -3,7 +3,7 @@ use Rattle.std.proofs.Common.{◌≡◌, ◌≤◌, ◌<◌, ◌⊎◌, ℕ, ◌
 use Rattle.std.proofs.lemmas.Bool.{cases_Bool, cond_both, eqb-true}
 use Rattle.std.proofs.lemmas.List.{drop_more}
 use Rattle.tl_html_spec.specs.HtmlTokenizer as T
-use Rattle.tl_html_spec.specs.HtmlTokenizer.{HtmlToken, Character, State, Step, at_end, char_of, settled, step, whole_step}
+use Rattle.tl_html_spec.specs.HtmlTokenizer.{HtmlToken, State, Step, at_end, char_of, step, whole_step}
 use Rattle.tl_html_spec.specs.Pieces.{piece, pieces_from, runs}
 use Rattle.tl_html_spec.specs.Reader.{Reader, Rest, after, at, byte_step, emitted, feed, is_at_rest, next, read, rest_before, rest_if, rest_within, tokens_of}
 use Rattle.tl_html_spec.specs.Driven.{opens_cdata}
@@ -277,9 +277,6 @@ scan_first page start m h =
 abbrev pub Follows : List ℕ → ℕ → Mode → ℕ → Scanned → Type 0
 Follows page start m place (On scan) = IsScan page start m (place + 1) scan
 Follows page start m place (Before k n) = IsFront page start m (record { kind = k; end = place; mode = n })
-
-plain_stage : (w : List ℕ) (c : Stage) (s : State) (ts : List HtmlToken) → w ≡ [] → IsStage w c s ts → IsStage [] c s ts
-plain_stage w c s ts e h = subst (λ (v : List ℕ). IsStage v c s ts) e h
 
 false_first : (v u : Bool) → (v && u) ≡ true → (v ≡ true) × (u ≡ true)
 false_first true u h = (refl, h)

@@ -27,11 +27,6 @@ StandsFor-selector_at : (text : List ℕ) (selector : Option Selector) → selec
 StandsFor-selector_at text None is = (text-none text).1 is
 StandsFor-selector_at text (Some e) is = (text-only text e).1 is
 
--- and nothing else
-selector_at-StandsFor : (text : List ℕ) (selector : Option Selector) → StandsFor text selector → selector ≡ selector_at text
-selector_at-StandsFor text None is = sym ((text-none text).0 is)
-selector_at-StandsFor text (Some e) is = sym ((text-only text e).0 is)
-
 -- so it finds the selector of what is asked, of which there is one
 pub IsSelectorOf-selector_of : (action : Action) → IsSelectorOf action (selector_of action)
 IsSelectorOf-selector_of (Selects text) = StandsFor-selector_at text (selector_at text) refl
@@ -41,12 +36,3 @@ IsSelectorOf-selector_of PrintsAgain = refl
 IsSelectorOf-selector_of (FindsId id) = refl
 IsSelectorOf-selector_of (FindsClass member) = refl
 IsSelectorOf-selector_of (Edits changes) = refl
-
-pub IsSelectorOf-only : (action : Action) (selector : Option Selector) → IsSelectorOf action selector → selector ≡ selector_of action
-IsSelectorOf-only (Selects text) selector is = selector_at-StandsFor text selector is
-IsSelectorOf-only Prints selector is = is
-IsSelectorOf-only Texts selector is = is
-IsSelectorOf-only PrintsAgain selector is = is
-IsSelectorOf-only (FindsId id) selector is = is
-IsSelectorOf-only (FindsClass member) selector is = is
-IsSelectorOf-only (Edits changes) selector is = is

@@ -151,11 +151,3 @@ led_push words links heads word before led small e =
             ∙ ap (λ (w : List ℕ). latest words (slot_of w) k) at))
       ];
     }
-
-pub led_none : AreLed [] [] (replicate 64 0)
-led_none = record {
-  slots = length-replicate {A = ℕ} 64 0;
-  count = refl;
-  from_heads = λ slot below. get_or-replicate 64 slot 0 0 below;
-  linked = λ k below. absurd (omega (arith, below));
-}

@@ -50,10 +50,6 @@ module _ (rows : List Row) (word : List ℕ) (link : ℕ) (r : Row) (reached : R
   falls are =
       omega (arith, some, before_is are, latest-within (words_in rows) (slot_of (slice_index_or (words_in rows) (link - 1) [])) (link - 1))
 
-pub not_found : (rows : List Row) (word : List ℕ) (link : ℕ) → Reached (words_in rows) word link → link ≡ 0 → false ≡ is_among (words_in rows) word
-not_found rows word link reached e =
-    sym (reached.same ∙ ap (λ (n : ℕ). is_among (take n (words_in rows)) word) e)
-
 pub pushed : (rows : List Row) (heads : List ℕ) (r : Row) (after : List Row) (slot len : ℕ) → AreLed (words_in rows) (links_in rows) heads
     → after ≡ rows ++ r ∷ [] → slot ≡ slot_of r.word.now → slot < 64 → r.before ≡ slice_index_or heads slot r.before → len ≡ length after
     → AreLed (words_in after) (links_in after) (slice_set heads slot len)
@@ -78,10 +74,6 @@ words_more words rows r after i d h so is e =
     ap words_in is ∙ map-append (λ (x : Row). x.word.now) rows (r ∷ []) ∙ ap (λ (ws : List (List ℕ)). ws ++ r.word.now ∷ []) so
     ∙ ap (λ (w : Bor (List ℕ)). words_of (take i words) ++ w.now ∷ []) e
     ∙ sym (map_more (λ (w : Bor (List ℕ)). w.now) words i d h)
-
-pub heads_from : (rows : List Row) (heads : List ℕ) → AreLed (words_in rows) (links_in rows) heads → AreHeads rows heads
-heads_from rows heads led = λ slot small.
-    led.from_heads slot small ∙ ap (λ (n : ℕ). latest (words_in rows) slot n) (count rows)
 
 pub linked_from : (rows : List Row) (heads : List ℕ) → AreLed (words_in rows) (links_in rows) heads → AreLinked rows
 linked_from rows heads led = λ k below. led.linked k (omega (arith, count rows))

@@ -40,9 +40,6 @@ any-here : (test : Entry → Bool) (xs ys : List Entry) (e : Entry) → list_any
 any-here test xs ys e h =
     (or_parts (test e) (list_any test ys) (or_parts (list_any test xs) (list_any test (e ∷ ys)) (sym (list_any-append test xs (e ∷ ys)) ∙ h)).1).0
 
-any-front : (test : Entry → Bool) (xs ys : List Entry) → list_any test (xs ++ ys) ≡ false → list_any test xs ≡ false
-any-front test xs ys h = (or_parts (list_any test xs) (list_any test ys) (sym (list_any-append test xs ys) ∙ h)).0
-
 -- Numbers that are at most the greatest one
 
 pub within-more : (number tag more most : ℕ) → number ≤ more → tag ≤ most → (e : Entry) → IsTrue (entry_is_within number tag e) → IsTrue (entry_is_within more most e)
@@ -112,14 +109,6 @@ distinct-without (x ∷ xs) ys e h =
     and_from (not (list_any (shares_number x) (xs ++ ys))) (are_distinct (xs ++ ys))
     (ap not (any-without (shares_number x) xs ys e (not-true (list_any (shares_number x) (xs ++ e ∷ ys)) p.0)))
     (distinct-without xs ys e p.1)
-
-distinct-front : (xs ys : List Entry) → IsTrue (are_distinct (xs ++ ys)) → IsTrue (are_distinct xs)
-distinct-front [] ys h = refl
-distinct-front (x ∷ xs) ys h =
-    let p = and_parts (not (list_any (shares_number x) (xs ++ ys))) (are_distinct (xs ++ ys)) h in
-    and_from (not (list_any (shares_number x) xs)) (are_distinct xs)
-    (ap not (any-front (shares_number x) xs ys (not-true (list_any (shares_number x) (xs ++ ys)) p.0)))
-    (distinct-front xs ys p.1)
 
 apart : (k : ℕ) (x e : Entry) → shares_number x e ≡ false → IsTrue (is_of k e) → is_of k x ≡ false
 apart k Marker e h own = refl

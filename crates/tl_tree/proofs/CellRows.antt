@@ -4,10 +4,10 @@ use Rattle.std.proofs.Math.ListN.{get_or-append}
 use Rattle.std.proofs.Math.Seq.{get_or-append_seam}
 use Rattle.std.proofs.lemmas.Bool.{and_parts, leb-true}
 use Rattle.std.proofs.lemmas.Option.{same_Some, slice_get_read, slice_get_within}
-use Rattle.tl_dom_spec.specs.Path.{Nodes, and_element, joined, no_nodes}
+use Rattle.tl_dom_spec.specs.Path.{joined}
 use Rattle.tl_tree.proofs.Within.{IsMore, cell-within, le-more, node-more}
 use Rattle.tl_tree.specs.Inner.Settling.{cell_weight, held_weight, node_weight, weight_of, weights_from}
-use Rattle.tl_tree.specs.Inner.Store.{Grows, is_node, is_row, node_in, node_of, nodes_of, row_in, rows_from, sizes_of, tag_at}
+use Rattle.tl_tree.specs.Inner.Store.{Grows, is_node, is_row, node_of, nodes_of, sizes_of}
 use Rattle.tl_tree.specs.Inner.Within.{Sizes, cell_is_within, cells_are_within, node_is_within}
 use Rattle.tl_tree.specs.declared.cell.Cell.{Cell}
 use Rattle.tl_tree.specs.declared.cell.Node.{Node}
@@ -56,10 +56,6 @@ filled-at z step d reads made (own ∷ cells) n (suc k) c long h e =
     (filled-at z step d reads next cells (n + 1) k c (omega (arith, many, long)) (subst (λ v. IsTrue (cells_are_within z v cells)) after p.1) e)
 
 -- Rows
-
-rows-filled : (s : Store) (rows : List Nodes) (cells : List Cell) → rows_from s rows cells ≡ filled (row_in s) rows cells
-rows-filled s rows [] = refl
-rows-filled s rows (c ∷ cells) = rows-filled s (rows ++ row_in s rows c ∷ []) cells
 
 -- Weights
 

@@ -8,7 +8,7 @@ use Rattle.std.proofs.lemmas.List.{reverse-append}
 use Rattle.std.proofs.lemmas.List.Folds.{list_any-append}
 use Rattle.std.specs.Option.{option_to_list}
 use Rattle.std.specs.Prelude.{MatchOption, Option, Some, max, reverse, take}
-use Rattle.tl_tree_extract.specs.Inner.Open.{AreAround, AreFrom, AreInOrder, AreOpen, AreUpTo, AreWithin, StandsAt, StandsBefore, goes_on, is_open}
+use Rattle.tl_tree_extract.specs.Inner.Open.{AreAround, AreFrom, AreInOrder, AreOpen, AreUpTo, AreWithin, StandsAt, goes_on, is_open}
 use Rattle.tl_tree_extract.specs.Table.{covers, free_from, is_covered}
 use Rattle.tl_tree_extract.specs.declared.forming.Forming.{Forming}
 use Rattle.tl_tree_extract.specs.declared.tables.Cell.{Cell}
@@ -26,10 +26,6 @@ up_to_one x (d ∷ cells) c le h = (h.0, up_to_one x cells c le h.1)
 from_less : (x y : ℕ) (cells : List Cell) → x ≤ y → AreFrom y cells → AreFrom x cells
 from_less x y [] le h = tt
 from_less x y (c ∷ cells) le h = (omega (arith, h.0), from_less x y cells le h.1)
-
-from_append : (x : ℕ) (cells others : List Cell) → AreFrom x (cells ++ others) → AreFrom x others
-from_append x [] others h = h
-from_append x (c ∷ cells) others h = from_append x cells others h.1
 
 from_put : (x : ℕ) (cells others : List Cell) (c : Cell) → x ≤ c.left → AreFrom x (cells ++ others) → AreFrom x (cells ++ c ∷ others)
 from_put x [] others c le h = (le, h)
@@ -213,9 +209,6 @@ row_begins cells going y h = record {
   sorted = h.sorted;
 }
 
-pub row_ends : (cells passed ahead : List Cell) (y x : ℕ) → AreAround cells y x passed ahead → AreOpen cells (suc y) (passed ++ ahead)
-row_ends cells passed ahead y x h = record { same = λ x' y' le. h.later x' y' (omega (arith, le)); sorted = h.sorted }
-
 -- What is formed
 
 pub placed_kept : (f g : Forming) (row : ℕ) (c : Cell) → g.width ≡ max f.width c.right → g.cells.items ≡ f.cells.items ++ c ∷ []
@@ -277,10 +270,4 @@ pub stands_same : (f g : Forming) (row column : ℕ) → g.width ≡ f.width →
 stands_same f g row column width cells passed ahead stands = record {
   around = rw (cells, passed, ahead) stands.around;
   within = rw (width, cells) stands.within;
-}
-
-pub row_starts : (f : Forming) (row : ℕ) → StandsBefore f row → StandsAt f row 0
-row_starts f row h = record {
-  around = rw h.none (row_begins f.cells.items (reverse f.ahead.items) row h.going);
-  within = h.within;
 }

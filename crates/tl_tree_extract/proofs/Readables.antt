@@ -59,11 +59,6 @@ items-more marks R first end kept n h =
     ∙ when-true (nat_lt n end) _ (lt-ltb n end h)
     ∙ ap (λ x. opened_of R d (nat_lt n inner) n ++ (ended_of R d first (behind_of R d n) n ++ x)) (enough marks R first end (end - n - 1) (end - behind_of R d n) inner (behind_of R d n) (omega (arith, l)) (omega (arith, l)))
 
-pub items-none : (marks : List Bool) (R : List Row) (first end kept n : ℕ) → end ≤ n → items_from marks R first end kept n ≡ []
-items-none marks R first end kept n h =
-    let none : end - n ≡ 0 = omega arith in
-    ap (λ f. items_up_to marks R first end f kept n) none
-
 -- where elements end nothing is written
 
 silent-if : (f : Flow) (b : Bool) (d : Display) (items : List Item) → written (after_item f (an_end d)) items ≡ [] → written f (if b then an_end d ∷ items else []) ≡ []

@@ -203,9 +203,5 @@ next_row t row next s one at =
       begun = begun_more row next (take s.met t.cells) le at.going.begun;
     }
 
--- the next cell begins below a row, or there is none
-pub ahead_here : (cells : List Cell) (row met : ℕ) (none : Cell) → met < length cells → row < (get_or cells met none).top → IsAhead row (slice_get cells met)
-ahead_here cells row met none lt below = subst (IsAhead row) (sym (slice_get-get_or cells met none lt)) below
-
 pub ahead_none : (cells : List Cell) (row met : ℕ) → length cells ≤ met → IsAhead row (slice_get cells met)
 ahead_none cells row met le = subst (IsAhead row) (sym (slice_get_past cells met le)) tt

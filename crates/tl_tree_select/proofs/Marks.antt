@@ -46,22 +46,6 @@ marks_both page a b marks others found p q len each = record {
   );
 }
 
-pub marks_either : (page : Page) (a b : Css) (marks others found : List Bool) → AreMarks page a marks → AreMarks page b others → length found ≡ length marks
-    → ((n : ℕ) → is_at found n ≡ (is_at marks n || is_at others n)) → AreMarks page (Either a b) found
-marks_either page a b marks others found p q len each = record {
-  len = len ∙ p.len;
-  each = λ n. (
-    λ mark. elim (or_cases (is_at marks n) (is_at others n) (sym (each n) ∙ mark)) as (λ _. Holds page a n ⊎ Holds page b n) [
-      | inl k ↦ inl ((p.each n).0 k)
-      | inr k ↦ inr ((q.each n).0 k)
-    ],
-    λ h. each n ∙ elim h as (λ _. (is_at marks n || is_at others n) ≡ true) [
-      | inl k ↦ or_left (is_at marks n) (is_at others n) ((p.each n).1 k)
-      | inr k ↦ or_right (is_at marks n) (is_at others n) ((q.each n).1 k)
-    ],
-  );
-}
-
 pub marks_not : (page : Page) (e : Css) (marks found : List Bool) → AreMarks page e marks → length found ≡ length page.rows
     → ((n : ℕ) → n < length page.rows → is_at found n ≡ (is_element_at page n && not (is_at marks n))) → AreMarks page (Not e) found
 marks_not page e marks found p len each = marks_within page (Not e) found len (λ n w. (

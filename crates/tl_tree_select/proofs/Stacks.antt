@@ -3,7 +3,7 @@ use Rattle.std.proofs.Common.{◌≡◌, Bool, true, false, List, [], ◌∷◌,
 use Rattle.std.proofs.lemmas.List.{map-append, reverse-append}
 use Rattle.tl_tree_select.specs.Page.{Page}
 use Rattle.tl_css.specs.Selector.{Css}
-use Rattle.tl_css.specs.Program.{change, meet, unite}
+use Rattle.tl_css.specs.Program.{meet, unite}
 use Rattle.tl_tree_select.specs.Inner.Columns.{AreColumns, AreMarks, columns_of, join, joined}
 
 abbrev Held : Type 0
@@ -51,17 +51,6 @@ put_back page es others e columns left marks are is m h =
     subst (λ (es : List Css). AreColumns page es columns) (sym are)
     (subst (λ (columns : List (List Bool)). AreColumns page (e ∷ others) columns) (sym is) (m, h))
 
-pub change_is : (f : Css → Css) (es others : List Css) (e : Css) → es ≡ e ∷ others → change f es ≡ f e ∷ others
-change_is f es others e are = ap (change f) are
-
 pub join_is : (both : Bool) (es others : List Css) (a b : Css) → es ≡ b ∷ a ∷ others → joined both es ≡ join both a b ∷ others
 join_is true es others a b are = ap meet are
 join_is false es others a b are = ap unite are
-
-pub join_one : (both : Bool) (es : List Css) (b : Css) → es ≡ b ∷ [] → joined both es ≡ b ∷ []
-join_one true es b are = ap meet are
-join_one false es b are = ap unite are
-
-pub join_none : (both : Bool) (es : List Css) → es ≡ [] → joined both es ≡ []
-join_none true es are = ap meet are
-join_none false es are = ap unite are

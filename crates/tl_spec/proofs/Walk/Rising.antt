@@ -66,11 +66,6 @@ module _ (nodes : List Node) (rising : ChildrenFollowParents nodes) where
 
 -- the handle at a place, and those after it
 
-pub drop-some : (xs : List ℕ) (i x : ℕ) → slice_get xs i ≡ Some x → drop i xs ≡ x ∷ drop (i + 1) xs
-drop-some [] i x h = absurd (cc)
-drop-some (y ∷ xs) zero x h = let e : y ≡ x = cc in ap (λ z. z ∷ xs) e
-drop-some (y ∷ xs) (suc i) x h = let e : suc (i + 1) ≡ suc i + 1 = omega arith in drop-some xs i x h ∙ ap (λ k. x ∷ drop k (y ∷ xs)) e
-
 pub drop-none : (xs : List ℕ) (i : ℕ) → slice_get xs i ≡ None → drop i xs ≡ []
 drop-none [] zero h = refl
 drop-none [] (suc i) h = refl
@@ -87,13 +82,3 @@ given child next = Some (child, next)
 
 abbrev pub following : ℕ → Option ℕ → Option (ℕ × ℕ)
 following place o = option_map (λ (c : ℕ). (c, place + 1)) o
-
-pub child_found : (place child next : ℕ) (o : Option ℕ) → given child next ≡ following place o → (o ≡ Some child) × (next ≡ place + 1)
-child_found place child next None e = absurd (cc)
-child_found place child next (Some c) e =
-    let both : pair child next ≡ pair c (place + 1) = cc in
-    (ap (λ (q : ℕ × ℕ). Some q.0) (sym both), ap (λ (q : ℕ × ℕ). q.1) both)
-
-pub child_missing : (place : ℕ) (o : Option ℕ) → None ≡ following place o → o ≡ None
-child_missing place None e = refl
-child_missing place (Some c) e = absurd (cc)
