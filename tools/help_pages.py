@@ -6,7 +6,7 @@ from .running import must
 # What stands in front of each completion, as a comment.
 MADE = "Made by ./x manual of what tl --help says."
 # The labels that --encoding takes, as docs/COMMANDS.md has them.
-LABELS = ("utf-8", "windows-1252", "latin1")
+LABELS = ("utf-8", "windows-1252", "latin1", "iso-8859-2", "iso-8859-15", "windows-1250", "windows-1251", "koi8-r", "utf-16le", "utf-16be")
 
 
 class Option:

@@ -6,6 +6,7 @@
     ./x compare html ..         a tokenizer written from the HTML standard alone with that of html5lib; tables of names with Python's;
                                 the definition of tree construction, run, with a model and with the trees of the standard's own tests;
                                 the trees of tl_tree with both
+    ./x compare encodings ..    what `tl` makes of bytes in an encoding with what Chromium makes of them
     ./x compare pages ..        what `tl` says of pages in a folder with what html5lib and lxml say
     ./x compare selectors ..    what `tl select` finds with a plain reader of selectors of CSS, Chromium and soupsieve
     ./x compare shared ..       which selector texts are read alike as those of the Rust crate and of CSS, by plain readers of both
@@ -17,7 +18,7 @@ import importlib
 
 from ..main import parser_of
 
-NAMES = ("check", "edits", "browser", "html", "pages", "selectors", "shared", "tools")
+NAMES = ("check", "edits", "encodings", "browser", "html", "pages", "selectors", "shared", "tools")
 
 
 def main(parser, words):

@@ -4,7 +4,7 @@ use crate::stop::{Stop, value};
 use crate::{Named, measured};
 use std::alloc::Global;
 use tl::ParserOptions;
-use tl_encoding::{Encoding, decode};
+use tl_encoding::{Encoding, SingleByte, decode};
 use tl_html_parts::{characters, comment, lower_name, tag_parts};
 use tl_html_print::{write_document, write_pretty};
 use tl_html_tokens::{Mode, tokens};
@@ -58,7 +58,7 @@ static ROWS: [Row; 22] = [
     ("Tree::into_owned", PageCall::OwnedTree, b"<p class=k>a&lt;", b"a<"),
     ("write_document", PageCall::Print, b"<!DOCTYPE html><p a='<&\"'>b &nbsp;<br><script>c<d", b"<!DOCTYPE html><html><head></head><body><p a=\"&lt;&amp;&quot;\">b &nbsp;<br><script>c<d</script></p></body></html>"),
     ("decode, UTF-8", PageCall::Decode(Encoding::Utf8), b"caf\xC3\xA9", b"caf\xC3\xA9"),
-    ("decode, windows-1252", PageCall::Decode(Encoding::Windows1252), b"caf\xE9 \x80", b"caf\xC3\xA9 \xE2\x82\xAC"),
+    ("decode, windows-1252", PageCall::Decode(Encoding::SingleByte(SingleByte::Windows1252)), b"caf\xE9 \x80", b"caf\xC3\xA9 \xE2\x82\xAC"),
     ("write_pretty", PageCall::Pretty, b"<!DOCTYPE html><div> <p>b <i>c</i></p><pre>d</pre></div>", b"<!DOCTYPE html>\n<html>\n  <head></head>\n  <body>\n    <div>\n      <p>b <i>c</i></p>\n      <pre>d</pre>\n    </div>\n  </body>\n</html>\n"),
     ("LineIndex::new", PageCall::Lines, b"a\nb\xC3\xA9", b"\x02\x03"),
 ];

@@ -3,7 +3,6 @@ use std::alloc::{AllocError, AllocFailed};
 use tl::ParseError;
 use tl::errors::{SetBytesError, TreeError};
 use tl_css::SelectorError;
-use tl_encoding::DecodeError;
 use tl_page::Failure;
 use tl_patch::PatchError;
 use tl_patch_edit::EditError;
@@ -142,15 +141,6 @@ impl From<ReadError> for Stop {
         match error {
             ReadError::OutOfMemory => Stop::NoMemory,
             _ => Stop::WrongError,
-        }
-    }
-}
-
-impl From<DecodeError> for Stop {
-    fn from(error: DecodeError) -> Self {
-        match error {
-            DecodeError::OutOfMemory => Stop::NoMemory,
-            DecodeError::NoText(_) => Stop::WrongError,
         }
     }
 }
