@@ -101,7 +101,8 @@ tl_status tl_sanitize_html_by(uint8_t policy, const uint8_t *page, size_t page_l
                               uint8_t *out, size_t room, size_t *needed);
 
 /* A list of a policy: words with commas between them, as "a,b,p"; empty words are left out. Where it isn't said, the list is that of
- * the policy, and the text isn't read. */
+ * the policy, and the text isn't read. One that begins with `+` or `-` changes the policy's list: a word behind `-` goes, one behind `+`
+ * or alone comes, as "+img,-b". The prefix is one word, and isn't changed so. */
 typedef struct {
     const uint8_t *text;
     size_t len;
@@ -114,7 +115,7 @@ typedef struct {
     tl_list keys;          /* the keys of attributes that may stand */
     tl_list link_keys;     /* the keys that hold links */
     tl_list link_prefixes; /* what links begin with */
-    tl_list id_prefix;     /* what values of `id`, `name` and `class` begin with: one word */
+    tl_list id_prefix;     /* what stands in front of `id` and `name` and of links to them, and what `class` begins with: one word */
     bool relative_links;   /* whether links beside the page may stand too, as `x.png`; also where that is the policy's own */
     bool nofollow_links;   /* whether each link is marked with rel="nofollow noopener"; `rel` is among the keys then */
     uint8_t policy;        /* TL_BLOG, TL_COMMENTS or TL_DOCUMENTS */
