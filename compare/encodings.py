@@ -2,10 +2,13 @@
 
     ./x compare encodings [--program FILE] [--inputs N] [--seed N] [--labels LABEL,..]
 
-Of each encoding that is decoded: all inputs of one byte, and N made-up ones (100,000) of up to twelve bytes, one behind the other in
-a few pages; of UTF-16 those are code units of all kinds, of UTF-8 bytes that begin and go on characters and others. Then 200 inputs
-in pages of their own, since what counts at the end of bytes counts there alone. So is each label of the standard, with bytes that
-tell its encoding. Of replacement, which Chromium's decoder doesn't take, each label gives one U+FFFD.
+Of each encoding: all inputs of one byte, and N made-up ones (100,000) of up to twelve bytes, one behind the other in a few pages; of
+UTF-16 those are code units of all kinds, of UTF-8 bytes that begin and go on characters and others, of encodings of several bytes such
+runs of bytes, escape sequences among them. Of the latter also all of two bytes, and of three behind the byte 0x8F of EUC-JP: each entry
+of each index; and the four bytes of each pointer of gb18030 in the first plane, and of some thousand beyond. Then 200 inputs in pages of
+their own, since what counts at the end of bytes counts there alone. So is each label of the standard, with bytes that tell its encoding.
+Of replacement, which Chromium's decoder doesn't take, each label gives one U+FFFD. Where Chromium differs from the standard, as
+compare/decoders.py says, and decodes a page just as it is said there, the page is compared with the standard's decoder of that file.
 
 Status: 0 where nothing differs, 1 where something does, 2 for words that aren't understood.
 """
@@ -17,6 +20,7 @@ import tempfile
 from tools.unproved import unproved_build
 
 from .chromium import all_answers, chromium, version
+from .decoders import DECODERS
 
 # Labels of the standard, an encoding a line, its own name first; those of replacement, which Chromium's decoder doesn't take, apart.
 LABELS = """
@@ -49,6 +53,13 @@ windows-1256 cp1256 x-cp1256
 windows-1257 cp1257 x-cp1257
 windows-1258 cp1258 x-cp1258
 x-mac-cyrillic x-mac-ukrainian
+gbk chinese csgb2312 csiso58gb231280 gb2312 gb_2312 gb_2312-80 iso-ir-58 x-gbk
+gb18030
+big5 big5-hkscs cn-big5 csbig5 x-x-big5
+euc-jp cseucpkdfmtjapanese x-euc-jp
+iso-2022-jp csiso2022jp
+shift_jis csshiftjis ms932 ms_kanji shift-jis sjis windows-31j x-sjis
+euc-kr cseuckr csksc56011987 iso-ir-149 korean ks_c_5601-1987 ks_c_5601-1989 ksc5601 ksc_5601 windows-949
 utf-16be unicodefffe
 utf-16le csunicode iso-10646-ucs-2 ucs-2 unicode unicodefeff utf-16
 x-user-defined
@@ -57,6 +68,13 @@ REPLACEMENT = """
 replacement csiso2022kr hz-gb-2312 iso-2022-cn iso-2022-cn-ext iso-2022-kr
 """
 UTF_16 = ("utf-16be", "utf-16le")
+GB = ("gbk", "gb18030")
+MULTI_BYTE = (*GB, "big5", "euc-jp", "iso-2022-jp", "shift_jis", "euc-kr")
+# Of ISO-2022-JP: escape sequences, and what begins them.
+ESCAPES = (b"\x1b(B", b"\x1b(J", b"\x1b(I", b"\x1b$@", b"\x1b$B", b"\x1b", b"\x1b$", b"\x1b(", b"\x1b(Z")
+TO_ASCII, TO_PAIRS = b"\x1b(B", b"\x1b$B"
+# Of gb18030: pointers of four bytes, of which those of the first plane end here.
+FIRST_PLANE, POINTERS = 39421, 1237576
 # Bytes that tell each single-byte encoding from the others.
 TELLING = bytes(range(0x80, 0x100))
 # Pages begin so, that all that follows is text.
@@ -73,8 +91,46 @@ def coded(label, text):
     return text.encode(label) if label in UTF_16 else text.encode()
 
 
+def four_bytes(pointer):
+    """The bytes of a pointer of gb18030."""
+    return bytes([0x81 + pointer // 12600, 0x30 + pointer // 1260 % 10, 0x81 + pointer // 10 % 126, 0x30 + pointer % 10])
+
+
+def part(label, chance):
+    """Bytes of an encoding of several bytes that belong together, or begin to."""
+    if label == "iso-2022-jp" and chance.randrange(2):
+        return chance.choice(ESCAPES)
+    if label == "iso-2022-jp":
+        return bytes(chance.randrange(0x20, 0x80) for _ in range(chance.randrange(1, 4)))
+    if label in GB and not chance.randrange(3):
+        return four_bytes(chance.choice((chance.randrange(FIRST_PLANE), chance.randrange(POINTERS))))[: chance.choice((4, 4, 3, 2))]
+    if label == "euc-jp" and not chance.randrange(3):
+        return bytes([chance.choice((0x8E, 0x8F)), chance.randrange(0xA0, 0x100), chance.randrange(0x90, 0x100)])
+    return bytes([chance.randrange(0x80, 0x100), chance.randrange(0x30, 0x100)])
+
+
+def made_of_parts(label, chance):
+    whole = b"".join(part(label, chance) if chance.randrange(4) else bytes([chance.randrange(256)]) for _ in range(chance.randrange(7)))
+    return whole[:12]
+
+
+def entries(label, chance):
+    """Bytes of each entry of the indexes of an encoding of several bytes."""
+    pairs = [bytes([a, b]) for a in range(0x80, 0x100) for b in range(256)]
+    if label == "iso-2022-jp":
+        return [TO_PAIRS + bytes([a, b]) for a in range(0x20, 0x80) for b in range(0x20, 0x80)]
+    if label == "euc-jp":
+        return pairs + [b"\x8f" + it for it in pairs]
+    if label in GB:
+        some = [chance.randrange(FIRST_PLANE, POINTERS + 100) for _ in range(5000)]
+        return pairs + [four_bytes(it) for it in [*range(FIRST_PLANE), *some]]
+    return pairs
+
+
 def made(label, chance):
     """Up to twelve bytes: of UTF-16 whole code units."""
+    if label in MULTI_BYTE:
+        return made_of_parts(label, chance)
     if label in UTF_16:
         units = (chance.choice(UNITS) if chance.randrange(3) else chance.randrange(0x10000) for _ in range(chance.randrange(7)))
         return b"".join(it.to_bytes(2, "big" if label == "utf-16be" else "little") for it in units)
@@ -84,11 +140,12 @@ def made(label, chance):
 
 def inputs(label, most, chance):
     """The pages of an encoding without their front."""
-    end = coded(label, "\n")
+    end = coded(label, "\n") if label != "iso-2022-jp" else TO_ASCII + b"\n"
     ones = [bytes([it]) for it in range(256)]
     if label in UTF_16:
         ones = [it + bytes([at]) for it in ones for at in range(0, 256, 3)]
-    rows = ones + [made(label, chance) for _ in range(most)]
+    listed = entries(label, chance) if label in MULTI_BYTE else []
+    rows = ones + listed + [made(label, chance) for _ in range(most)]
     pages = [end.join(rows[at:at + 20000]) for at in range(0, len(rows), 20000)]
     odd = [made(label, chance) + (bytes([chance.randrange(256)]) if chance.randrange(2) else b"") for _ in range(200)]
     return pages + odd
@@ -114,12 +171,20 @@ def first_difference(ours, theirs):
     return f"at byte {at}: {ours[max(0, at - 9):at + 9]!r}, and Chromium {theirs[max(0, at - 9):at + 9]!r}"
 
 
+def by_the_standard(label, page, digits):
+    """What Chromium decodes, and what the standard's decoder does where Chromium's is known to differ."""
+    decoder = DECODERS.get(label)
+    if decoder and decoder(as_chromium=True).decode(page).encode().hex() == digits:
+        return decoder(as_chromium=False).decode(page).encode().hex()
+    return digits
+
+
 def compared(program, pairs, browser, room):
     """How many pages of pairs of a label and bytes are decoded otherwise."""
     differ = 0
     answers = all_answers(browser, "encodings.html", [(label, page.hex()) for label, page in pairs], BATCH)
     for (label, page), digits in zip(pairs, answers):
-        ours, theirs = text_of(program, label, page, room), as_text(digits)
+        ours, theirs = text_of(program, label, page, room), as_text(by_the_standard(label, page, digits))
         if ours != theirs:
             differ += 1
             print(f"{label}: {page[:40]!r} ({len(page)} bytes): {first_difference(ours, theirs)}", flush=True)

@@ -3,7 +3,11 @@ the first such byte; one in windows-1252 (and latin1, which is the same) has `é
 
   $ printf '' | tl text
   $ printf 'café<meta charset=latin1>' | tl text
+  cafÃ© (no-eol)
+  $ printf 'café<meta charset=latin1>' | tl text --encoding auto
   café (no-eol)
+  $ printf '\351<meta charset=latin1>' | tl text --encoding auto
+  é (no-eol)
   $ printf '\357\273\277\351<meta charset=latin1>' | tl text --strict
   tl: -: no UTF-8 at byte 3; --encoding says what a page is in (err)
   [2]
@@ -108,7 +112,7 @@ the first such byte; one in windows-1252 (and latin1, which is the same) has `é
   tl: -: no UTF-8 at byte 41; --encoding says what a page is in (err)
   [2]
   $ printf '<?xml version="1.0" encoding="latin1"?><p>café' | tl text
-  café (no-eol)
+  cafÃ© (no-eol)
   $ printf '\357\273\277<?xml version="1.0" encoding="latin1"?><p>\351' | tl text --strict
   tl: -: no UTF-8 at byte 45; --encoding says what a page is in (err)
   [2]
@@ -196,41 +200,67 @@ the first such byte; one in windows-1252 (and latin1, which is the same) has `é
   $ printf '\357\273\277<\000?\000x\000' | tl text
   <?x (no-eol)
 
-Pages in encodings that are not read, by their labels; others, and UTF-16, by its mark or its declaration.
+Pages in encodings of several bytes, by their labels. A byte that goes on with no character is an error, behind which it is read again if
+it is ASCII.
 
-  $ printf '\351<meta charset=Shift_JIS>' | tl text
-  tl: -: the encoding `Shift_JIS` is not read (err)
+  $ printf '\203e\203X\203g<meta charset=Shift_JIS>' | tl text
+  テスト (no-eol)
+  $ printf '\261\262\372@<meta charset=sjis>' | tl text
+  ｱｲⅰ (no-eol)
+  $ printf '\307\321\261\271\276\356<meta charset=euc-kr><meta charset=latin1>' | tl text
+  한국어 (no-eol)
+  $ printf '\214c\271\346<meta charset=" windows-949\n">' | tl text
+  똠방 (no-eol)
+  $ printf '\306\374\313\334<meta charset=euc-jp>' | tl text
+  日本 (no-eol)
+  $ printf '\216\261\217\260\241\260\241<meta charset=x-euc-jp>' | tl text
+  ｱ丂亜 (no-eol)
+  $ printf '\270\325\305\347<meta charset=nope><meta charset=big5>' | tl text
+  試驗 (no-eol)
+  $ printf '\210b\210\245\207@<meta charset=big5-hkscs>' | tl text
+  Ê̄ê̌䏰 (no-eol)
+  $ printf '\312\324\321\351<meta charset=" gbk\n">' | tl text
+  试验 (no-eol)
+  $ printf '\200\2010\2046\2200\2010<meta charset=gb18030>' | tl text
+  €¥𐀀 (no-eol)
+  $ printf '\033$BF|K\134\033(B<meta charset=iso-2022-jp>' | tl text
+  日本 (no-eol)
+  $ printf '\033(J\134~\033(I1\033$B0!\033(B~<meta charset=csiso2022jp>' | tl text
+  ¥‾ｱ亜~ (no-eol)
+  $ printf 'a\203<b>c\201\377<meta charset=sjis>' | tl text
+  a�c� (no-eol)
+  $ printf '\2010\201a\2010<meta charset=gbk>' | tl text
+  �0乤�0 (no-eol)
+  $ printf '\217\260a\216\376b<meta charset=euc-jp>' | tl text
+  �a�b (no-eol)
+  $ printf '\033$B0\033(Ba\033(B\033(Bb\033(Zc<meta charset=iso-2022-jp>' | tl text
+  �a�b�(Zc (no-eol)
+  $ printf '<meta charset=iso-2022-jp>\033(I1\033$' | tl text
+  ｱ�､ (no-eol)
+  $ printf 'a\201\377<meta charset=sjis>' | tl text --strict
+  tl: -: no character at byte 1; --encoding says what a page is in (err)
   [2]
-  $ printf '\351<meta charset=" gbk\n">' | tl text
-  tl: -: the encoding `gbk` is not read (err)
+  $ printf '<meta charset=gb18030>\2010\201' | tl text --strict
+  tl: -: no character at byte 22; --encoding says what a page is in (err)
   [2]
+
+Other encodings, and UTF-16, by its mark or its declaration.
+
   $ printf '\351<meta charset=koi8-r><meta charset=latin1>' | tl text
   И (no-eol)
-  $ printf '\351<meta charset=nope><meta charset=big5>' | tl text
-  tl: -: the encoding `big5` is not read (err)
-  [2]
   $ printf '\360<meta charset=iso-8859-9>' | tl text
   ğ (no-eol)
   $ printf '\244<meta charset=iso_8859-15>' | tl text
   € (no-eol)
   $ printf '\351<meta charset=koi8-u><meta charset=latin1>' | tl text
   И (no-eol)
-  $ printf '\351<meta charset=euc-kr><meta charset=latin1>' | tl text
-  tl: -: the encoding `euc-kr` is not read (err)
-  [2]
   $ printf '\351<meta charset=utf-16be><meta charset=latin1>' | tl text --strict
   tl: -: no UTF-8 at byte 0; --encoding says what a page is in (err)
   [2]
   $ printf '\351<meta http-equiv=content-type content="text/html; charset=iso-8859-2">' | tl text
   é (no-eol)
-  $ printf '<?xml version=\0471.0\047 encoding=\047Shift_JIS\047?>\203' | tl text
-  tl: -: the encoding `Shift_JIS` is not read (err)
-  [2]
   $ printf '<?xml version=\0471.0\047 encoding=\047x-user-defined\047?>\351' | tl text | od -An -tx1
    ef 9f a9
-  $ printf '<?xml version=\0471.0\047 encoding=\047latin1\047?><meta charset=gbk>\351' | tl text
-  tl: -: the encoding `gbk` is not read (err)
-  [2]
   $ printf '\376\377\000<' | tl text
   < (no-eol)
   $ printf '\377\376<\000' | tl text
@@ -302,13 +332,14 @@ The labels are those of the standard.
   $ printf 'caf\303\251' | tl text --encoding hz-gb-2312
   � (no-eol)
   $ printf 'caf\303\251' | tl text --encoding gbk
-  tl: no encoding that is read: gbk (err)
-  [2]
+  caf茅 (no-eol)
   $ printf 'caf\303\251' | tl text --encoding Shift_JIS
-  tl: no encoding that is read: Shift_JIS (err)
+  cafﾃｩ (no-eol)
+  $ printf 'caf\303\251' | tl text --encoding utf-7
+  tl: no label of an encoding: utf-7 (err)
   [2]
   $ printf 'caf\303\251' | tl text --encoding ''
-  tl: no encoding that is read:\x20 (esc) (err)
+  tl: no label of an encoding:\x20 (esc) (err)
   [2]
 
 Bytes, and the text that they stand for.
@@ -514,7 +545,7 @@ Pages that people have: each says its encoding otherwise, or none.
   $ printf '\377\376<\000h\000t\000m\000l\000>\000<\000h\000e\000a\000d\000>\000<\000t\000i\000t\000l\000e\000>\000G\000r\000\366\000\337\000e\000 \000\345e,g<\000/\000t\000i\000t\000l\000e\000>\000<\000/\000h\000e\000a\000d\000>\000<\000b\000o\000d\000y\000>\000<\000p\000 \000c\000l\000a\000s\000s\000=\000x\000>\000G\000r\000\366\000\337\000e\000 \000\345e,g<\000/\000p\000>\000<\000/\000b\000o\000d\000y\000>\000<\000/\000h\000t\000m\000l\000>\000' | tl select -t p
   Größe 日本
   $ printf '<html><head><meta charset=iso-8859-1><title>Gr\303\266\303\237e \346\227\245\346\234\254</title></head><body><p class=x>Gr\303\266\303\237e \346\227\245\346\234\254</p></body></html>' | tl select -t p
-  Größe 日本
+  GrÃ¶ÃŸe æ—¥æœ¬
   $ printf '<html><head><meta charset=utf-8><title>Gr\303\266\303\237e</title></head><body><p class=x>Gr\303\266\303\237e bad\377</p></body></html>' | tl select -t p
   Größe bad�
   $ printf '\357\273\277<html><head><title>Gr\303\266\303\237e \346\227\245\346\234\254</title></head><body><p class=x>Gr\303\266\303\237e \346\227\245\346\234\254</p></body></html>' | tl select -t p

@@ -312,14 +312,15 @@ Encodings.
   tl: latin1.html: no UTF-8 at byte 6; --encoding says what a page is in (err)
   [2]
   $ printf '<p>caf\303\251<meta charset=latin1>' | tl text
+  cafÃ© (no-eol)
+  $ printf '<p>caf\303\251<meta charset=latin1>' | tl text --encoding auto
   café (no-eol)
   $ printf '\376\377\0<\0p\0>\0\351' | tl text
   é (no-eol)
   $ printf '\377\376<\0p\0>\0\351\0' | tl text
   é (no-eol)
-  $ printf '<meta charset=Shift_JIS><p>\203' | tl text
-  tl: -: the encoding `Shift_JIS` is not read (err)
-  [2]
+  $ printf '<meta charset=Shift_JIS><p>\203e\203X\203g' | tl text
+  テスト (no-eol)
   $ printf '<!-- <meta charset=koi8-r> --><meta charset=" latin1 "><p>caf\351' | tl text
   café (no-eol)
   $ printf '<meta name=description content="charset=koi8-r"><meta charset=latin1><p>caf\351' | tl text
@@ -327,9 +328,8 @@ Encodings.
   $ printf '<meta charset=""><p>\351' | tl text --strict
   tl: -: no UTF-8 at byte 20; --encoding says what a page is in (err)
   [2]
-  $ printf '<meta charset=" gbk "><p>\203' | tl text
-  tl: -: the encoding `gbk` is not read (err)
-  [2]
+  $ printf '<meta charset=" gbk "><p>\312\324' | tl text
+  试 (no-eol)
   $ printf '<meta charset=utf-8><p>\203' | tl text --strict
   tl: -: no UTF-8 at byte 23; --encoding says what a page is in (err)
   [2]
@@ -341,9 +341,8 @@ Encodings.
   café (no-eol)
   $ printf '<?xml version="1.0" encoding="koi8-r"?><p>\351' | tl text
   И (no-eol)
-  $ printf '<?xml version="1.0" encoding="gbk"?><p>\351' | tl text
-  tl: -: the encoding `gbk` is not read (err)
-  [2]
+  $ printf '<?xml version="1.0" encoding="gbk"?><p>\312\324' | tl text
+  试 (no-eol)
   $ printf '<?xml version="1.0" encoding=latin1?><p>\351' | tl text --strict
   tl: -: no UTF-8 at byte 40; --encoding says what a page is in (err)
   [2]
@@ -353,8 +352,8 @@ Encodings.
   é (no-eol)
   $ printf '\0<\0?\0x\0m\0l\0>\0\351' | tl text
   é (no-eol)
-  $ tl text --encoding gbk meta.html
-  tl: no encoding that is read: gbk (err)
+  $ tl text --encoding utf-7 meta.html
+  tl: no label of an encoding: utf-7 (err)
   [2]
   $ tl print meta.html
   <!DOCTYPE html><html><head><meta charset="ISO-8859-1"></head><body><p>café €</p></body></html> (no-eol)

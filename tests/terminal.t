@@ -113,14 +113,7 @@ Fewer files show it too where they take more than a second.
 
 What is said of a page takes its place, whatever that is.
 
-  $ printf '\377<meta charset=gbk>' >gbk
   $ printf '\377' >bytes
-  $ python3 terminal.py 'tl select -q i gbk *.html 2>&1 >said' | tr -d '\r' | tr '\033' '\n' | sed -n '1,5p'
-  (empty)
-  7
-  [Ktl: file 1 of 104
-  8
-  [Ktl: gbk: the encoding `gbk` is not read
   $ python3 terminal.py 'tl select --strict -q i bytes *.html 2>&1 >said' | tr -d '\r' | tr '\033' '\n' | sed -n '1,5p'
   (empty)
   7

@@ -1,12 +1,12 @@
 -- The standard's decoder of UTF-8 gives what Table 3-7 of the Unicode Standard says (`bstr`).
-use Rattle.std.proofs.Common.{◌≡◌, ◌∙◌, ◌⊎◌, ℕ, zero, suc, ◌+◌, ◌-◌, ◌*◌, ◌<◌, ◌≤◌, Bool, true, false, nat_lt, List, [], ◌∷◌, drop, length, slice_index, refl, sym, ap, arith, inl, inr, ⊎_elim}
+use Rattle.std.proofs.Common.{◌≡◌, ◌∙◌, ℕ, zero, suc, ◌+◌, ◌-◌, ◌*◌, ◌<◌, ◌≤◌, true, false, nat_lt, List, [], ◌∷◌, drop, length, slice_index, refl, sym, ap, arith, inl, inr, ⊎_elim}
 use Rattle.std.specs.Prelude.{◌==◌, ◌&&◌, nat_le}
 use Rattle.std.specs.Int.{is_in_range}
 use Rattle.std.proofs.lemmas.Bool.{cases_Bool, eqb-true}
 use Rattle.std.proofs.lemmas.Bool.Decides.{nat_tests}
-use Rattle.bstr.specs.Utf8.{Decoded, bad, good, decoded, decoded_by, continues, second, code_of_2, code_of_3, code_of_4, lossy_chars, or_replacement}
+use Rattle.bstr.specs.Utf8.{Decoded, bad, good, decoded, continues, second, code_of_2, code_of_3, code_of_4, lossy_chars, or_replacement}
 use Rattle.bstr.proofs.lemmas.PieceLemmas.{decoded_by-shape, lossy_chars-step, lossy_chars-nil}
-use Rattle.tl_encoding.specs.Utf8.{State, outside, inside, first_points, first_state, lower, upper, decodes, utf_8}
+use Rattle.tl_encoding.specs.Utf8.{outside, inside, lower, upper, decodes, utf_8}
 
 lt_is_le : (a c : ℕ) → nat_lt a c ≡ nat_le (suc a) c
 lt_is_le a c = elim (cases_Bool (nat_lt a c)) [

@@ -1,5 +1,5 @@
 -- Which encoding a page is in.
-use Rattle.std.specs.Prelude.{ℕ, List, [], ◌∷◌, Option, Some, None, Result, Ok, Err, option_map, if◌then◌else◌}
+use Rattle.std.specs.Prelude.{ℕ, Bool, ◌&&◌, List, [], ◌∷◌, Option, Some, None, false, not, option_map, true, if◌then◌else◌}
 use Rattle.std.specs.Str.{is_utf8}
 use Rattle.tl_encoding.specs.Charset.{charset_of}
 use Rattle.tl_encoding.specs.Declaration.{label_declared, utf_16_declared}
@@ -8,9 +8,7 @@ use Rattle.tl_encoding.specs.Runs.{begins}
 use Rattle.tl_encoding.specs.declared.encoding.ByteOrder.{ByteOrder}
 use Rattle.tl_encoding.specs.declared.encoding.ByteOrder.TheVariants.{BigEndian, LittleEndian}
 use Rattle.tl_encoding.specs.declared.encoding.Encoding.{Encoding}
-use Rattle.tl_encoding.specs.declared.encoding.Encoding.TheVariants.{Utf8, Utf16, SingleByte, UserDefined, Replacement}
-use Rattle.tl_encoding.specs.declared.encoding.EncodingError.{EncodingError}
-use Rattle.tl_encoding.specs.declared.encoding.EncodingError.TheVariants.{Unknown}
+use Rattle.tl_encoding.specs.declared.encoding.Encoding.TheVariants.{Utf8, Utf16, SingleByte, MultiByte, Iso2022Jp, UserDefined, Replacement}
 use Rattle.tl_encoding.specs.declared.single_byte.SingleByte.TheVariants.{Windows1252}
 
 -- the encoding of a label
@@ -22,6 +20,8 @@ abbrev pub no_utf_16 : Encoding → Encoding
 no_utf_16 Utf8 = Utf8
 no_utf_16 (Utf16 order) = Utf8
 no_utf_16 (SingleByte name) = SingleByte name
+no_utf_16 (MultiByte name) = MultiByte name
+no_utf_16 Iso2022Jp = Iso2022Jp
 no_utf_16 UserDefined = UserDefined
 no_utf_16 Replacement = Replacement
 
@@ -30,6 +30,8 @@ abbrev pub no_user_defined : Encoding → Encoding
 no_user_defined Utf8 = Utf8
 no_user_defined (Utf16 order) = Utf16 order
 no_user_defined (SingleByte name) = SingleByte name
+no_user_defined (MultiByte name) = MultiByte name
+no_user_defined Iso2022Jp = Iso2022Jp
 no_user_defined UserDefined = SingleByte Windows1252
 no_user_defined Replacement = Replacement
 
@@ -41,32 +43,23 @@ encoding_declared label = option_map no_utf_16 (encoding_named label)
 abbrev pub encoding_meant : List ℕ → Option Encoding
 encoding_meant label = option_map no_user_defined (encoding_declared label)
 
--- what there is to say of a page: its encoding, or why it is in none that is read
-pub data Answer : Type 0 where
-  known : Encoding → Answer
-  unknown : List ℕ → Answer
-
-abbrev pub answer_of : Result Encoding EncodingError → Answer
-answer_of (Ok encoding) = known encoding
-answer_of (Err (Unknown label)) = unknown label.now
-
--- the encoding of a label, or that there is none
-abbrev pub known_or : Option Encoding → List ℕ → Answer
-known_or None label = unknown label
-known_or (Some encoding) label = known encoding
+-- an encoding, and UTF-8 if there is none
+abbrev pub or_utf_8 : Option Encoding → Encoding
+or_utf_8 None = Utf8
+or_utf_8 (Some encoding) = encoding
 
 -- what a declaration says, and UTF-8 if there is none that says anything
-abbrev pub declared : Option (List ℕ) → Answer
-declared None = known Utf8
-declared (Some label) = known_or (encoding_declared label) label
+abbrev pub declared : Option (List ℕ) → Encoding
+declared None = Utf8
+declared (Some label) = or_utf_8 (encoding_declared label)
 
 -- what a tag `meta` says, and what a declaration says where none does
-abbrev pub labelled : Option (List ℕ) → List ℕ → Answer
+abbrev pub labelled : Option (List ℕ) → List ℕ → Encoding
 labelled None page = declared (label_declared page)
-labelled (Some label) page = known_or (encoding_meant label) label
+labelled (Some label) page = or_utf_8 (encoding_meant label)
 
 -- what a page says in itself
-abbrev pub encoding_said : List ℕ → Answer
+abbrev pub encoding_said : List ℕ → Encoding
 encoding_said page = labelled (charset_of page) page
 
 -- the encoding of a byte-order mark in front ("BOM sniff")
@@ -77,21 +70,41 @@ encoding_marked page =
     else if begins (0xFF ∷ 0xFE ∷ []) page then Some (Utf16 LittleEndian)
     else None
 
--- where neither a mark nor a declaration in UTF-16 stands in front: it counts that a page is UTF-8,
--- then what it says
-abbrev pub encoding_unmarked : List ℕ → Answer
-encoding_unmarked page = if is_utf8 page then known Utf8 else encoding_said page
+-- what stands in front: a byte-order mark counts first, then a declaration in UTF-16
+abbrev pub in_utf_16 : Option ByteOrder → Option Encoding
+in_utf_16 None = None
+in_utf_16 (Some order) = Some (Utf16 order)
 
--- a declaration in UTF-16 counts before that: a page in UTF-16 whose characters are ASCII is UTF-8
--- too
-abbrev pub in_utf_16_or : Option ByteOrder → List ℕ → Answer
-in_utf_16_or None page = encoding_unmarked page
-in_utf_16_or (Some order) page = known (Utf16 order)
+abbrev pub marked_or : Option Encoding → Option Encoding → Option Encoding
+marked_or None other = other
+marked_or (Some encoding) other = Some encoding
 
--- a byte-order mark counts first
-abbrev pub marked_or : Option Encoding → List ℕ → Answer
-marked_or None page = in_utf_16_or (utf_16_declared page) page
-marked_or (Some encoding) page = known encoding
+abbrev pub in_front : List ℕ → Option Encoding
+in_front page = marked_or (encoding_marked page) (in_utf_16 (utf_16_declared page))
 
-abbrev pub encoding_in : List ℕ → Answer
-encoding_in page = marked_or (encoding_marked page) page
+abbrev pub in_front_or : Option Encoding → Encoding → Encoding
+in_front_or None other = other
+in_front_or (Some encoding) other = encoding
+
+-- the encoding of a page, as browsers tell it: what stands in front, then what it says
+abbrev pub encoding_in : List ℕ → Encoding
+encoding_in page = in_front_or (in_front page) (encoding_said page)
+
+-- whether bytes of an encoding are ASCII whatever they stand for
+abbrev pub is_in_ascii : Encoding → Bool
+is_in_ascii Utf8 = false
+is_in_ascii (Utf16 order) = false
+is_in_ascii (SingleByte name) = false
+is_in_ascii (MultiByte name) = false
+is_in_ascii Iso2022Jp = true
+is_in_ascii UserDefined = false
+is_in_ascii Replacement = false
+
+-- that bytes are UTF-8 counts before what a page says, but where they are that in any case
+abbrev pub by_bytes : Encoding → List ℕ → Encoding
+by_bytes said page = if not (is_in_ascii said) && is_utf8 page then Utf8 else said
+
+-- the encoding of a page by its bytes; what stands in front counts first, since a page in UTF-16
+-- whose characters are ASCII is UTF-8 too
+abbrev pub encoding_by_bytes : List ℕ → Encoding
+encoding_by_bytes page = in_front_or (in_front page) (by_bytes (encoding_said page) page)

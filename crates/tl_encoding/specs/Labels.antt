@@ -1,13 +1,14 @@
 -- Labels of encodings, as the encoding standard gets an encoding by one.
-use Rattle.std.specs.Prelude.{ℕ, Bool, ◌||◌, ◌-◌, ◌++◌, List, [], ◌∷◌, Option, Some, None, drop, is_some, length, map, take, if◌then◌else◌}
+use Rattle.std.specs.Prelude.{ℕ, Bool, ◌-◌, ◌++◌, List, [], ◌∷◌, Option, Some, None, drop, is_some, length, map, take, if◌then◌else◌}
 use Rattle.std.specs.Char.{is_ascii_whitespace}
 use Rattle.std.specs.List.{prefix_len, suffix_len}
 use Rattle.tl_names.specs.Elements.{words}
 use Rattle.tl_spec.specs.Lex.ByteClass.{is_among_in_any_case}
 use Rattle.tl_encoding.specs.declared.encoding.ByteOrder.TheVariants.{BigEndian, LittleEndian}
 use Rattle.tl_encoding.specs.declared.encoding.Encoding.{Encoding}
-use Rattle.tl_encoding.specs.declared.encoding.Encoding.TheVariants.{Utf8, Utf16, SingleByte, UserDefined, Replacement}
+use Rattle.tl_encoding.specs.declared.encoding.Encoding.TheVariants.{Utf8, Utf16, SingleByte, MultiByte, Iso2022Jp, UserDefined, Replacement}
 use Rattle.tl_encoding.specs.declared.labels.Row.{Row}
+use Rattle.tl_encoding.specs.declared.multi_byte.MultiByte.TheVariants.{Big5, EucJp, EucKr, Gb18030, Gbk, ShiftJis}
 use Rattle.tl_encoding.specs.declared.single_byte.SingleByte.TheVariants.{Ibm866, Iso8859_2, Iso8859_3, Iso8859_4, Iso8859_5, Iso8859_6, Iso8859_7, Iso8859_8, Iso8859_8I, Iso8859_10, Iso8859_13, Iso8859_14, Iso8859_15, Iso8859_16, Koi8R, Koi8U, Macintosh, Windows874, Windows1250, Windows1251, Windows1252, Windows1253, Windows1254, Windows1255, Windows1256, Windows1257, Windows1258, XMacCyrillic}
 
 -- white space at the end goes
@@ -18,7 +19,7 @@ without_end bytes = take (length bytes - suffix_len is_ascii_whitespace bytes) b
 abbrev pub trimmed : List ℕ → List ℕ
 trimmed bytes = without_end (drop (prefix_len is_ascii_whitespace bytes) bytes)
 
--- the labels of each encoding that is decoded, as the encoding standard lists them (4.2)
+-- the labels of each encoding, as the encoding standard lists them (4.2)
 unfoldable pub labels : List (Encoding × List (List ℕ))
 labels = (
   Utf8,
@@ -86,7 +87,23 @@ labels = (
     (SingleByte Windows1256, words "cp1256 windows-1256 x-cp1256") ∷
     (SingleByte Windows1257, words "cp1257 windows-1257 x-cp1257") ∷
     (SingleByte Windows1258, words "cp1258 windows-1258 x-cp1258") ∷
-    (SingleByte XMacCyrillic, words "x-mac-cyrillic x-mac-ukrainian") ∷
+    (SingleByte XMacCyrillic, words "x-mac-cyrillic x-mac-ukrainian") ∷ (
+      MultiByte Gbk,
+      words "chinese csgb2312 csiso58gb231280 gb2312 gb_2312"
+          ++ words "gb_2312-80 gbk iso-ir-58 x-gbk",
+    ) ∷
+    (MultiByte Gb18030, words "gb18030") ∷
+    (MultiByte Big5, words "big5 big5-hkscs cn-big5 csbig5 x-x-big5") ∷
+    (MultiByte EucJp, words "cseucpkdfmtjapanese euc-jp x-euc-jp") ∷
+    (Iso2022Jp, words "csiso2022jp iso-2022-jp") ∷ (
+      MultiByte ShiftJis,
+      words "csshiftjis ms932 ms_kanji shift-jis shift_jis"
+          ++ words "sjis windows-31j x-sjis",
+    ) ∷ (
+      MultiByte EucKr,
+      words "cseuckr csksc56011987 euc-kr iso-ir-149 korean"
+          ++ words "ks_c_5601-1987 ks_c_5601-1989 ksc5601 ksc_5601 windows-949",
+    ) ∷
     (Utf16 BigEndian, words "unicodefffe utf-16be") ∷ (
       Utf16 LittleEndian,
       words "csunicode iso-10646-ucs-2 ucs-2 unicode unicodefeff utf-16"
@@ -98,19 +115,6 @@ labels = (
           ++ words "replacement",
     ) ∷ []
 
--- those of the other encodings, an encoding a line or more: GBK, gb18030, Big5, EUC-JP,
--- ISO-2022-JP, Shift_JIS and EUC-KR
-unfoldable pub labels_unread : List (List ℕ)
-labels_unread =
-    words "chinese csgb2312 csiso58gb231280 gb2312 gb_2312 gb_2312-80 gbk iso-ir-58 x-gbk"
-    ++ words "gb18030"
-    ++ words "big5 big5-hkscs cn-big5 csbig5 x-x-big5"
-    ++ words "cseucpkdfmtjapanese euc-jp x-euc-jp"
-    ++ words "csiso2022jp iso-2022-jp"
-    ++ words "csshiftjis ms932 ms_kanji shift-jis shift_jis sjis windows-31j x-sjis"
-    ++ words "cseuckr csksc56011987 euc-kr iso-ir-149 korean ks_c_5601-1987 ks_c_5601-1989"
-    ++ words "ksc5601 ksc_5601 windows-949"
-
 -- a row of the code's table
 abbrev pub labels_of : Row → Encoding × List (List ℕ)
 labels_of row = (row.encoding, map (λ own. own.now) row.labels.now)
@@ -121,14 +125,10 @@ named_in [] label = None
 named_in (row ∷ rows) label =
     if is_among_in_any_case row.1 label then Some row.0 else named_in rows label
 
--- the encoding of a label that has no white space around it, if it is decoded
+-- the encoding of a label that has no white space around it
 abbrev pub encoding_named : List ℕ → Option Encoding
 encoding_named label = named_in labels label
 
--- a label of an encoding that isn't decoded
-abbrev pub names_unread : List ℕ → Bool
-names_unread label = is_among_in_any_case labels_unread label
-
 -- whether the encoding standard has the label
 abbrev pub is_label : List ℕ → Bool
-is_label label = is_some (encoding_named label) || names_unread label
+is_label label = is_some (encoding_named label)

@@ -6,7 +6,10 @@ pub mod Decoders
 pub mod Encodings
 pub mod Examples
 pub mod Indexes
+pub mod Iso2022Jp
 pub mod Labels
+pub mod MultiByte
+pub mod Pairs
 pub mod Runs
 pub mod SingleByte
 pub mod Utf16

@@ -2,14 +2,13 @@
 ghost use Rattle.std.specs.Prelude.{◌≡◌};
 ghost use Rattle.std.specs.Str.{is_utf8};
 ghost use Rattle.tl_encoding.specs.Declaration.{label_declared};
-ghost use Rattle.tl_encoding.specs.Encodings.{answer_of, declared, encoding_declared, encoding_in, encoding_labelled, encoding_marked, encoding_meant, encoding_said, known_or, no_user_defined, no_utf_16};
+ghost use Rattle.tl_encoding.specs.Encodings.{by_bytes, declared, encoding_by_bytes, encoding_declared, encoding_in, encoding_labelled, encoding_marked, encoding_meant, encoding_said, in_front, is_in_ascii, no_user_defined, no_utf_16, or_utf_8};
 
 use crate::charset::charset_of;
 use crate::declaration::{label_declared, utf_16_declared};
 use crate::labels::{encoding_named, trimmed};
+use crate::multi_byte::MultiByte;
 use crate::single_byte::SingleByte;
-use bstr::ByteSlice;
-use thiserror::Error;
 
 /// Which of the two bytes of a code unit comes first.
 #[derive(Clone, Copy, PartialEq, Eq, Debug)]
@@ -24,18 +23,12 @@ pub enum Encoding {
     Utf8,
     Utf16(ByteOrder),
     SingleByte(SingleByte),
+    MultiByte(MultiByte),
+    Iso2022Jp,
     /// The standard's x-user-defined.
     UserDefined,
     /// Of pages whose bytes nothing should read: any stand for one U+FFFD.
     Replacement,
-}
-
-/// Why a page is in no encoding that is read.
-#[derive(Clone, Copy, PartialEq, Eq, Debug, Error)]
-pub enum EncodingError<'p> {
-    /// It says another one, by this label.
-    #[error("the encoding `{label}` is not read", label = .0.as_bstr())]
-    Unknown(&'p [u8]),
 }
 
 impl Encoding {
@@ -66,6 +59,16 @@ impl Encoding {
         }
     }
 
+    // Whether its bytes are ASCII whatever they stand for.
+    fn is_in_ascii(self) -> bool
+        ensures { result ≡ is_in_ascii self }
+    {
+        match self {
+            Encoding::Iso2022Jp => true,
+            _ => false,
+        }
+    }
+
     // The encoding that an XML declaration means.
     fn declared(label: &[u8]) -> Option<Encoding>
         ensures { result ≡ encoding_declared label.now }
@@ -81,33 +84,33 @@ impl Encoding {
     }
 }
 
-// The encoding of a label, or that it has none that is read.
-fn known_or(encoding: Option<Encoding>, label: &[u8]) -> Result<Encoding, EncodingError<'_>>
-    ensures { answer_of result ≡ known_or encoding label.now }
+// An encoding, and UTF-8 if there is none.
+fn or_utf_8(encoding: Option<Encoding>) -> Encoding
+    ensures { result ≡ or_utf_8 encoding }
 {
     match encoding {
-        Some(encoding) => Ok(encoding),
-        None => Err(EncodingError::Unknown(label)),
+        Some(known) => known,
+        None => Encoding::Utf8,
     }
 }
 
 // The encoding that a page says in an XML declaration; else it has to be UTF-8.
-fn encoding_declared(page: &[u8]) -> Result<Encoding, EncodingError<'_>>
-    ensures { answer_of result ≡ declared (label_declared page.now) }
+fn encoding_declared(page: &[u8]) -> Encoding
+    ensures { result ≡ declared (label_declared page.now) }
 {
     match label_declared(page) {
-        Some(label) => known_or(Encoding::declared(label), label),
-        None => Ok(Encoding::Utf8),
+        Some(label) => or_utf_8(Encoding::declared(label)),
+        None => Encoding::Utf8,
     }
 }
 
 /// The encoding that a page says in itself, whatever its bytes are: a tag `meta` counts before an
 /// XML declaration, and one that says nothing is in UTF-8.
-pub fn encoding_said(page: &[u8]) -> Result<Encoding, EncodingError<'_>>
-    ensures { answer_of result ≡ encoding_said page.now }
+pub fn encoding_said(page: &[u8]) -> Encoding
+    ensures { result ≡ encoding_said page.now }
 {
     match charset_of(page) {
-        Some(label) => known_or(Encoding::meant(label), label),
+        Some(label) => or_utf_8(Encoding::meant(label)),
         None => encoding_declared(page),
     }
 }
@@ -132,26 +135,56 @@ pub fn encoding_marked(page: &[u8]) -> Option<Encoding>
 fn is_utf_8(page: &[u8]) -> bool
     ensures { result ≡ is_utf8 page.now }
 {
-    match simdutf8::compat::from_utf8(page) {
+    match std::str::from_utf8(page) {
         Ok(_) => true,
         Err(_) => false,
     }
 }
 
-/// The encoding of a page: that of its byte-order mark or of a declaration in UTF-16, else UTF-8 if
-/// it is that, else what it says among its first 1,024 bytes in a tag `meta` or, where none says
-/// anything, in an XML declaration, and UTF-8 if it says nothing.
-pub fn encoding_of(page: &[u8]) -> Result<Encoding, EncodingError<'_>>
-    ensures { answer_of result ≡ encoding_in page.now }
+// UTF-8 if bytes are that; else what is said, and where they are that in any case.
+fn by_bytes(said: Encoding, page: &[u8]) -> Encoding
+    ensures { result ≡ by_bytes said page.now }
+{
+    if !said.is_in_ascii() && is_utf_8(page) {
+        Encoding::Utf8
+    } else {
+        said
+    }
+}
+
+// The encoding of what stands in front of a page: its byte-order mark, or a declaration in UTF-16.
+fn in_front(page: &[u8]) -> Option<Encoding>
+    ensures { result ≡ in_front page.now }
 {
     if let Some(encoding) = encoding_marked(page) {
-        return Ok(encoding);
+        return Some(encoding);
     }
-    if let Some(order) = utf_16_declared(page) {
-        return Ok(Encoding::Utf16(order));
+    match utf_16_declared(page) {
+        Some(order) => Some(Encoding::Utf16(order)),
+        None => None,
     }
-    if is_utf_8(page) {
-        return Ok(Encoding::Utf8);
+}
+
+/// The encoding of a page, as browsers tell it: that of its byte-order mark or of a declaration in
+/// UTF-16, else what it says among its first 1,024 bytes in a tag `meta` or, where none says
+/// anything, in an XML declaration, and UTF-8 if it says nothing.
+pub fn encoding_of(page: &[u8]) -> Encoding
+    ensures { result ≡ encoding_in page.now }
+{
+    match in_front(page) {
+        Some(front) => front,
+        None => encoding_said(page),
     }
-    encoding_said(page)
+}
+
+/// The encoding of a page by its bytes, which count before what it says: that of its byte-order
+/// mark or of a declaration in UTF-16, else UTF-8 if it is that, else what it says. A page that
+/// says ISO-2022-JP is in that, since its bytes are UTF-8 as well.
+pub fn encoding_by_bytes(page: &[u8]) -> Encoding
+    ensures { result ≡ encoding_by_bytes page.now }
+{
+    match in_front(page) {
+        Some(encoding) => encoding,
+        None => by_bytes(encoding_said(page), page),
+    }
 }

@@ -1,16 +1,17 @@
 //! Worked rows: pages, and what the standard's prescan finds in them.
-#![tactic(auto, unfolding(crate::specs::Labels::labels, crate::specs::Labels::labels_unread))]
+#![tactic(auto, unfolding(crate::specs::Labels::labels))]
 
 ghost use Rattle.std.specs.Prelude.{◌≡◌, [], ◌∷◌, Some, None, codes, encode_utf8, encode_utf8_all};
 ghost use Rattle.tl_encoding.specs.Attributes.{tag_end, value_at};
 ghost use Rattle.tl_encoding.specs.Content.{content_label};
 ghost use Rattle.tl_encoding.specs.Decoders.{decoded, user_defined, wrong_in};
-ghost use Rattle.tl_encoding.specs.Encodings.{encoding_in, encoding_labelled, encoding_marked, known, unknown};
-ghost use Rattle.tl_encoding.specs.Examples.{Declares, DeclaresNothing, Means, Says, SaysNothing, latin_1};
+ghost use Rattle.tl_encoding.specs.Encodings.{encoding_in, encoding_labelled, encoding_marked};
+ghost use Rattle.tl_encoding.specs.Examples.{Declares, DeclaresNothing, Decodes, Means, Says, SaysNothing, latin_1};
 ghost use Rattle.tl_encoding.specs.SingleByte.{index, of_index};
 ghost use Rattle.tl_encoding.specs.Utf8.{utf_8};
 ghost use Rattle.tl_encoding.specs.declared.encoding.ByteOrder.TheVariants.{BigEndian, LittleEndian};
-ghost use Rattle.tl_encoding.specs.declared.encoding.Encoding.TheVariants.{Replacement, SingleByte, UserDefined, Utf16, Utf8};
+ghost use Rattle.tl_encoding.specs.declared.encoding.Encoding.TheVariants.{Iso2022Jp, MultiByte, Replacement, SingleByte, UserDefined, Utf16, Utf8};
+ghost use Rattle.tl_encoding.specs.declared.multi_byte.MultiByte.TheVariants.{Big5, EucJp, EucKr, Gb18030, Gbk, ShiftJis};
 ghost use Rattle.tl_encoding.specs.declared.single_byte.SingleByte.TheVariants.{Iso8859_15, Iso8859_8I, Koi8R, Koi8U, Windows1252, Windows1253};
 
 /// Attributes ("get an attribute").
@@ -99,41 +100,43 @@ pub fn declarations()
 
 /// Where declarations count.
 pub fn declared()
-    ensures alone { Means "<?xml encoding='l1'?>" (known latin_1) }
-    ensures behind_a_meta { Means "<?xml encoding='koi8-r'?><meta charset=l1>" (known latin_1) }
-    ensures passed_meta { Means "<?xml encoding='l1'?><meta charset=nope>" (known latin_1) }
-    ensures utf_16 { Means "<?xml encoding='utf-16'?>" (known Utf8) }
-    ensures user_defined { Means "<?xml encoding='x-user-defined'?>" (known UserDefined) }
-    ensures unread { Means "<?xml encoding='gbk'?>" (unknown (codes "gbk")) }
-    ensures no_label { Means "<?xml encoding='nope'?>" (known Utf8) }
-    ensures little_end_first { encoding_in (codes "<\0?\0x\0") ≡ known (Utf16 LittleEndian) }
-    ensures big_end_first { encoding_in (codes "\0<\0?\0x") ≡ known (Utf16 BigEndian) }
-    ensures too_short { encoding_in (codes "<\0?\0x") ≡ known Utf8 }
+    ensures alone { Means "<?xml encoding='l1'?>" latin_1 }
+    ensures behind_a_meta { Means "<?xml encoding='koi8-r'?><meta charset=l1>" latin_1 }
+    ensures passed_meta { Means "<?xml encoding='l1'?><meta charset=nope>" latin_1 }
+    ensures utf_16 { Means "<?xml encoding='utf-16'?>" Utf8 }
+    ensures user_defined { Means "<?xml encoding='x-user-defined'?>" UserDefined }
+    ensures multi_byte { Means "<?xml encoding='gbk'?>" (MultiByte Gbk) }
+    ensures no_label { Means "<?xml encoding='nope'?>" Utf8 }
+    ensures little_end_first { encoding_in (codes "<\0?\0x\0") ≡ (Utf16 LittleEndian) }
+    ensures big_end_first { encoding_in (codes "\0<\0?\0x") ≡ (Utf16 BigEndian) }
+    ensures too_short { encoding_in (codes "<\0?\0x") ≡ Utf8 }
 {}
 
 /// Byte-order marks count before what a page says.
 pub fn marks()
-    ensures utf_8 { encoding_in (0xEF ∷ 0xBB ∷ 0xBF ∷ 0xE9 ∷ codes "<meta charset=l1>") ≡ known Utf8 }
+    ensures utf_8 { encoding_in (0xEF ∷ 0xBB ∷ 0xBF ∷ 0xE9 ∷ codes "<meta charset=l1>") ≡ Utf8 }
     ensures big_end_first { encoding_in (0xFE ∷ 0xFF ∷ codes "<meta charset=l1>")
-        ≡ known (Utf16 BigEndian) }
+        ≡ (Utf16 BigEndian) }
     ensures little_end_first { encoding_in (0xFF ∷ 0xFE ∷ codes "<meta charset=l1>")
-        ≡ known (Utf16 LittleEndian) }
+        ≡ (Utf16 LittleEndian) }
     ensures half { encoding_marked (0xFF ∷ codes "<meta charset=l1>") ≡ None }
 {}
 
 /// The encodings that labels mean.
 pub fn encodings()
-    ensures latin_1 { Means "<meta charset=Latin1>" (known latin_1) }
-    ensures utf_16 { Means "<meta charset=utf-16be>" (known Utf8) }
-    ensures user_defined { Means "<meta charset=x-user-defined>" (known latin_1) }
-    ensures koi8_u { Means "<meta charset=KOI8-RU>" (known (SingleByte Koi8U)) }
-    ensures replacement { Means "<meta charset=hz-gb-2312>" (known Replacement) }
-    ensures unread { Means "<meta charset=' gbk '>" (unknown (codes "gbk")) }
-    ensures no_label { Means "<meta charset=nope>" (known Utf8) }
+    ensures latin_1 { Means "<meta charset=Latin1>" latin_1 }
+    ensures utf_16 { Means "<meta charset=utf-16be>" Utf8 }
+    ensures user_defined { Means "<meta charset=x-user-defined>" latin_1 }
+    ensures koi8_u { Means "<meta charset=KOI8-RU>" (SingleByte Koi8U) }
+    ensures replacement { Means "<meta charset=hz-gb-2312>" Replacement }
+    ensures multi_byte { Means "<meta charset=' gbk '>" (MultiByte Gbk) }
+    ensures no_label { Means "<meta charset=nope>" Utf8 }
     ensures with_white_space { encoding_labelled (codes " latin1 ") ≡ Some latin_1 }
     ensures utf_16_itself { encoding_labelled (codes "utf-16") ≡ Some (Utf16 LittleEndian) }
     ensures big_end_first { encoding_labelled (codes "UTF-16BE") ≡ Some (Utf16 BigEndian) }
-    ensures unread_itself { encoding_labelled (codes "euc-kr") ≡ None }
+    ensures euc_kr { encoding_labelled (codes "euc-kr") ≡ Some (MultiByte EucKr) }
+    ensures iso_2022_jp { encoding_labelled (codes "csISO2022JP") ≡ Some Iso2022Jp }
+    ensures none { encoding_labelled (codes "utf-7") ≡ None }
 {}
 
 /// What bytes stand for by an index.
@@ -171,6 +174,51 @@ pub fn units()
     ensures wrong_trailing { wrong_in (Utf16 BigEndian) (0 ∷ 0x61 ∷ 0xDE ∷ 0 ∷ []) ≡ Some 2 }
     ensures wrong_end { wrong_in (Utf16 BigEndian) (0xD8 ∷ 0x3D ∷ 0xDE ∷ []) ≡ Some 0 }
     ensures not_wrong { wrong_in (Utf16 BigEndian) (0xFF ∷ 0xFD ∷ []) ≡ None }
+{}
+
+/// What bytes of encodings of several bytes stand for.
+#[tactic(auto, unfolding(tl_indexes::specs::EucKr::euc_kr, tl_indexes::specs::Jis0208::jis0208, tl_indexes::specs::Jis0212::jis0212, tl_indexes::specs::Gb18030::gb18030, tl_indexes::specs::Ranges::ranges))]
+pub fn pairs()
+    ensures korean { Decodes (MultiByte EucKr) (0xC7 ∷ 0xD1 ∷ []) (0xD55C ∷ []) }
+    ensures japanese { Decodes (MultiByte ShiftJis) (0x93 ∷ 0xFA ∷ []) (0x65E5 ∷ []) }
+    ensures jis0212 { Decodes (MultiByte EucJp) (0x8F ∷ 0xB0 ∷ 0xA1 ∷ []) (0x4E02 ∷ []) }
+    ensures chinese { Decodes (MultiByte Gbk) (0xD6 ∷ 0xD0 ∷ []) (0x4E2D ∷ []) }
+    ensures four_bytes { Decodes (MultiByte Gb18030) (0x90 ∷ 0x30 ∷ 0x81 ∷ 0x30 ∷ [])
+        (0x10000 ∷ []) }
+    ensures in_two_bytes { Decodes Iso2022Jp (0x1B ∷ 0x24 ∷ 0x42 ∷ 0x46 ∷ 0x7C ∷ []) (0x65E5 ∷ []) }
+{}
+
+/// What they stand for where no index is asked, and where errors are.
+pub fn leads()
+    ensures two_characters { Decodes (MultiByte Big5) (0x88 ∷ 0x62 ∷ []) (0xCA ∷ 0x304 ∷ []) }
+    ensures euro { Decodes (MultiByte Gbk) (0x80 ∷ []) (0x20AC ∷ []) }
+    ensures katakana { Decodes (MultiByte EucJp) (0x8E ∷ 0xB1 ∷ []) (0xFF71 ∷ []) }
+    ensures private_use { Decodes (MultiByte ShiftJis) (0xF0 ∷ 0x40 ∷ []) (0xE000 ∷ []) }
+    ensures ascii_restored { Decodes (MultiByte EucKr) (0xC7 ∷ 0x3C ∷ []) (0xFFFD ∷ 0x3C ∷ []) }
+    ensures not_restored { Decodes (MultiByte EucKr) (0xC7 ∷ 0xFF ∷ []) (0xFFFD ∷ []) }
+    ensures digit_restored { Decodes (MultiByte Gbk) (0x81 ∷ 0x30 ∷ 0x3C ∷ [])
+        (0xFFFD ∷ 0x30 ∷ 0x3C ∷ []) }
+    ensures three_restored { Decodes (MultiByte Gbk) (0x81 ∷ 0x30 ∷ 0x81 ∷ 0x3C ∷ [])
+        (0xFFFD ∷ 0x30 ∷ 0xFFFD ∷ 0x3C ∷ []) }
+    ensures cut { Decodes (MultiByte Big5) (0x61 ∷ 0xA4 ∷ []) (0x61 ∷ 0xFFFD ∷ []) }
+    ensures wrong_lead { wrong_in (MultiByte Gbk) (0x61 ∷ 0x81 ∷ 0x30 ∷ 0x81 ∷ 0x3C ∷ []) ≡ Some 1 }
+    ensures wrong_end { wrong_in (MultiByte EucJp) (0x61 ∷ 0x8F ∷ 0xB0 ∷ []) ≡ Some 1 }
+    ensures not_wrong { wrong_in (MultiByte ShiftJis) (0x61 ∷ 0xB1 ∷ []) ≡ None }
+{}
+
+/// Escape sequences.
+pub fn escapes()
+    ensures roman { Decodes Iso2022Jp (0x1B ∷ 0x28 ∷ 0x4A ∷ 0x5C ∷ []) (0xA5 ∷ []) }
+    ensures katakana { Decodes Iso2022Jp (0x1B ∷ 0x28 ∷ 0x49 ∷ 0x31 ∷ []) (0xFF71 ∷ []) }
+    ensures two { Decodes Iso2022Jp (0x1B ∷ 0x28 ∷ 0x42 ∷ 0x1B ∷ 0x28 ∷ 0x42 ∷ []) (0xFFFD ∷ []) }
+    ensures apart { Decodes Iso2022Jp (0x1B ∷ 0x28 ∷ 0x4A ∷ 0x61 ∷ 0x1B ∷ 0x28 ∷ 0x42 ∷ [])
+        (0x61 ∷ []) }
+    ensures none { Decodes Iso2022Jp (0x1B ∷ 0x28 ∷ 0x5A ∷ []) (0xFFFD ∷ 0x28 ∷ 0x5A ∷ []) }
+    ensures in_a_pair { Decodes Iso2022Jp (0x1B ∷ 0x24 ∷ 0x42 ∷ 0x30 ∷ 0x1B ∷ 0x28 ∷ 0x42 ∷ [])
+        (0xFFFD ∷ []) }
+    ensures cut { Decodes Iso2022Jp (0x1B ∷ 0x28 ∷ 0x49 ∷ 0x1B ∷ 0x24 ∷ []) (0xFFFD ∷ 0xFF64 ∷ []) }
+    ensures shift { Decodes Iso2022Jp (0x0E ∷ []) (0xFFFD ∷ []) }
+    ensures wrong { wrong_in Iso2022Jp (0x61 ∷ 0x1B ∷ 0x28 ∷ 0x5A ∷ []) ≡ Some 1 }
 {}
 
 /// Bytes that are no UTF-8: U+FFFD for each longest run that begins a character, and for each other

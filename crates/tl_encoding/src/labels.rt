@@ -1,8 +1,9 @@
 //! The labels of encodings, as the encoding standard lists them (4.2).
 ghost use Rattle.std.specs.Prelude.{◌≡◌, map};
-ghost use Rattle.tl_encoding.specs.Labels.{encoding_named, is_label, labels_of, named_in, names_unread, trimmed};
+ghost use Rattle.tl_encoding.specs.Labels.{encoding_named, is_label, labels_of, named_in, trimmed};
 
 use crate::encoding::{ByteOrder, Encoding};
+use crate::multi_byte::MultiByte;
 use crate::single_byte::SingleByte;
 use tl_bytes::ascii_case::is_among_in_any_case;
 
@@ -12,9 +13,8 @@ pub(crate) struct Row {
     labels: &'static [&'static str],
 }
 
-// Those of the encodings that are decoded.
 #[rattlefmt::skip]
-pub(crate) static LABELS: [Row; 33] = [
+pub(crate) static LABELS: [Row; 40] = [
     Row {
         encoding: Encoding::Utf8,
         labels: &[
@@ -203,6 +203,51 @@ pub(crate) static LABELS: [Row; 33] = [
         ],
     },
     Row {
+        encoding: Encoding::MultiByte(MultiByte::Gbk),
+        labels: &[
+            "chinese", "csgb2312", "csiso58gb231280", "gb2312", "gb_2312", "gb_2312-80", "gbk",
+            "iso-ir-58", "x-gbk",
+        ],
+    },
+    Row {
+        encoding: Encoding::MultiByte(MultiByte::Gb18030),
+        labels: &[
+            "gb18030",
+        ],
+    },
+    Row {
+        encoding: Encoding::MultiByte(MultiByte::Big5),
+        labels: &[
+            "big5", "big5-hkscs", "cn-big5", "csbig5", "x-x-big5",
+        ],
+    },
+    Row {
+        encoding: Encoding::MultiByte(MultiByte::EucJp),
+        labels: &[
+            "cseucpkdfmtjapanese", "euc-jp", "x-euc-jp",
+        ],
+    },
+    Row {
+        encoding: Encoding::Iso2022Jp,
+        labels: &[
+            "csiso2022jp", "iso-2022-jp",
+        ],
+    },
+    Row {
+        encoding: Encoding::MultiByte(MultiByte::ShiftJis),
+        labels: &[
+            "csshiftjis", "ms932", "ms_kanji", "shift-jis", "shift_jis", "sjis", "windows-31j",
+            "x-sjis",
+        ],
+    },
+    Row {
+        encoding: Encoding::MultiByte(MultiByte::EucKr),
+        labels: &[
+            "cseuckr", "csksc56011987", "euc-kr", "iso-ir-149", "korean", "ks_c_5601-1987",
+            "ks_c_5601-1989", "ksc5601", "ksc_5601", "windows-949",
+        ],
+    },
+    Row {
         encoding: Encoding::Utf16(ByteOrder::BigEndian),
         labels: &[
             "unicodefffe", "utf-16be",
@@ -230,21 +275,6 @@ pub(crate) static LABELS: [Row; 33] = [
     },
 ];
 
-/// Those of the other encodings, an encoding a line or more: GBK, gb18030, Big5, EUC-JP,
-/// ISO-2022-JP, Shift_JIS and EUC-KR.
-#[rattlefmt::skip]
-pub static UNREAD: [&str; 38] = [
-    "chinese", "csgb2312", "csiso58gb231280", "gb2312", "gb_2312", "gb_2312-80", "gbk",
-    "iso-ir-58", "x-gbk",
-    "gb18030",
-    "big5", "big5-hkscs", "cn-big5", "csbig5", "x-x-big5",
-    "cseucpkdfmtjapanese", "euc-jp", "x-euc-jp",
-    "csiso2022jp", "iso-2022-jp",
-    "csshiftjis", "ms932", "ms_kanji", "shift-jis", "shift_jis", "sjis", "windows-31j", "x-sjis",
-    "cseuckr", "csksc56011987", "euc-kr", "iso-ir-149", "korean", "ks_c_5601-1987",
-    "ks_c_5601-1989", "ksc5601", "ksc_5601", "windows-949",
-];
-
 // The encoding of the first row that has a label.
 fn named_in(rows: &[Row], label: &[u8]) -> Option<Encoding>
     ensures { result ≡ named_in (map labels_of rows.now) label.now }
@@ -257,7 +287,7 @@ fn named_in(rows: &[Row], label: &[u8]) -> Option<Encoding>
     None
 }
 
-/// The encoding of a label that has no white space around it, if it is decoded.
+/// The encoding of a label that has no white space around it.
 #[tactic(auto, unfolding(crate::specs::Labels::labels))]
 pub(crate) fn encoding_named(label: &[u8]) -> Option<Encoding>
     ensures { result ≡ encoding_named label.now }
@@ -265,18 +295,11 @@ pub(crate) fn encoding_named(label: &[u8]) -> Option<Encoding>
     named_in(&LABELS, label)
 }
 
-#[tactic(auto, unfolding(crate::specs::Labels::labels_unread))]
-fn names_unread(label: &[u8]) -> bool
-    ensures { result ≡ names_unread label.now }
-{
-    is_among_in_any_case(&UNREAD, label)
-}
-
 /// Whether the encoding standard has the label.
 pub(crate) fn is_label(label: &[u8]) -> bool
     ensures { result ≡ is_label label.now }
 {
-    encoding_named(label).is_some() || names_unread(label)
+    encoding_named(label).is_some()
 }
 
 /// A label without white space around it.

@@ -8,15 +8,19 @@ mod declaration;
 mod encoding;
 mod examples;
 mod indexes;
+mod iso_2022_jp;
 mod labels;
 mod laws;
+mod multi_byte;
+mod pairs;
 mod run;
 mod single_byte;
 mod text;
 mod utf_16;
 
 pub use encoding::{
-    ByteOrder, Encoding, EncodingError, encoding_marked, encoding_of, encoding_said,
+    ByteOrder, Encoding, encoding_by_bytes, encoding_marked, encoding_of, encoding_said,
 };
+pub use multi_byte::MultiByte;
 pub use single_byte::SingleByte;
 pub use text::{DecodeError, decode, decode_strict};

@@ -8,6 +8,8 @@ ghost use Rattle.tl_encoding.specs.declared.text.DecodeError.TheVariants.{NoChar
 ghost use Rattle.tl_encoding.specs.declared.encoding.Encoding.TheVariants.{Utf8};
 
 use crate::encoding::Encoding;
+use crate::iso_2022_jp::{iso_2022_jp_text, iso_2022_jp_wrong};
+use crate::multi_byte::{multi_byte_text, multi_byte_wrong};
 use crate::single_byte::of_index;
 use crate::utf_16::{utf_16_text, utf_16_wrong};
 use std::alloc::{AllocError, Global};
@@ -116,6 +118,8 @@ pub fn decode(alloc: Global, page: Vec<u8>, encoding: Encoding) -> Result<String
         Encoding::Utf8 => utf_8_text(alloc, page),
         Encoding::Utf16(order) => utf_16_text(alloc, order, page.as_slice()),
         Encoding::SingleByte(name) => single_byte_text(alloc, name.index(), page.as_slice()),
+        Encoding::MultiByte(name) => multi_byte_text(alloc, name, page.as_slice()),
+        Encoding::Iso2022Jp => iso_2022_jp_text(alloc, page.as_slice()),
         Encoding::UserDefined => user_defined_text(alloc, page.as_slice()),
         Encoding::Replacement => replaced(alloc, page.as_slice()),
     }
@@ -129,6 +133,8 @@ fn wrong_in(encoding: Encoding, bytes: &[u8]) -> Option<usize>
         Encoding::Utf8 | Encoding::UserDefined => None,
         Encoding::Utf16(order) => utf_16_wrong(order, bytes),
         Encoding::SingleByte(name) => index_wrong(name.index(), bytes),
+        Encoding::MultiByte(name) => multi_byte_wrong(name, bytes),
+        Encoding::Iso2022Jp => iso_2022_jp_wrong(bytes),
         Encoding::Replacement if bytes.is_empty() => None,
         Encoding::Replacement => Some(0),
     }

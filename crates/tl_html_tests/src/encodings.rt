@@ -1,22 +1,19 @@
 //! Which encoding pages say that they are in.
-use tl_encoding::{ByteOrder, Encoding, EncodingError, SingleByte, encoding_marked, encoding_said};
-
-// What pages say.
-type Said = Result<Encoding, EncodingError<'static>>;
+use tl_encoding::{ByteOrder, Encoding, MultiByte, SingleByte, encoding_marked, encoding_said};
 
 const LATIN_1: Encoding = Encoding::SingleByte(SingleByte::Windows1252);
 
 // Pages of ASCII, and what they say: it counts also where the bytes are UTF-8.
 #[rattlefmt::skip]
-static SAID: [(&[u8], Said); 8] = [
-    (b"<p>a", Ok(Encoding::Utf8)),
-    (b"<meta charset=utf-8><p>a", Ok(Encoding::Utf8)),
-    (b"<meta charset=latin1><p>a", Ok(LATIN_1)),
-    (b"<?xml version=\"1.0\" encoding=\"latin1\"?><p>a", Ok(LATIN_1)),
-    (b"<?xml version=\"1.0\" encoding=\"latin1\"?><meta charset=utf-8>", Ok(Encoding::Utf8)),
-    (b"<meta charset=koi8-r><p>a", Ok(Encoding::SingleByte(SingleByte::Koi8R))),
-    (b"<meta charset=utf-16le><p>a", Ok(Encoding::Utf8)),
-    (b"<meta charset=gbk><p>a", Err(EncodingError::Unknown(b"gbk"))),
+static SAID: [(&[u8], Encoding); 8] = [
+    (b"<p>a", Encoding::Utf8),
+    (b"<meta charset=utf-8><p>a", Encoding::Utf8),
+    (b"<meta charset=latin1><p>a", LATIN_1),
+    (b"<?xml version=\"1.0\" encoding=\"latin1\"?><p>a", LATIN_1),
+    (b"<?xml version=\"1.0\" encoding=\"latin1\"?><meta charset=utf-8>", Encoding::Utf8),
+    (b"<meta charset=koi8-r><p>a", Encoding::SingleByte(SingleByte::Koi8R)),
+    (b"<meta charset=utf-16le><p>a", Encoding::Utf8),
+    (b"<meta charset=gbk><p>a", Encoding::MultiByte(MultiByte::Gbk)),
 ];
 
 // What pages begin with, and the encoding of that as a mark.

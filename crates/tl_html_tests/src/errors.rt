@@ -1,7 +1,7 @@
 //! The texts of errors.
 use std::alloc::Global;
 use std::fmt::Display;
-use tl_encoding::{DecodeError, EncodingError};
+use tl_encoding::DecodeError;
 use tl_patch::PatchError;
 use tl_patch_edit::EditError;
 
@@ -32,11 +32,6 @@ static OF_DECODE: [(DecodeError, &str); 3] = [
     (DecodeError::OutOfMemory, "out of memory"),
 ];
 
-static OF_ENCODING: [(EncodingError<'static>, &str); 1] = [(
-    EncodingError::Unknown(b"gbk\xFF"),
-    "the encoding `gbk\u{FFFD}` is not read",
-)];
-
 // Whether an error says this.
 fn says<E: Display>(alloc: Global, error: &E, text: &str) -> bool {
     match format!(in alloc; "{error}") {
@@ -48,9 +43,6 @@ fn says<E: Display>(alloc: Global, error: &E, text: &str) -> bool {
 #[test]
 fn errors_of_pages_have_texts(rt: HostRuntime) {
     for (error, text) in &OF_DECODE {
-        assert!(rt; says(rt.alloc(), error, text), "{text}");
-    }
-    for (error, text) in &OF_ENCODING {
         assert!(rt; says(rt.alloc(), error, text), "{text}");
     }
 }

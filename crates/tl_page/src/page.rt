@@ -34,7 +34,7 @@ pub fn text(page: &[u8]) -> Result<&str, PageError>
     if page.len() > u32::MAX as usize {
         return Err(PageError::too_long());
     }
-    match simdutf8::compat::from_utf8(page) {
+    match std::str::from_utf8(page) {
         Ok(text) => Ok(text),
         Err(error) => Err(PageError::no_text(error.valid_up_to())),
     }
