@@ -5,9 +5,12 @@ relative selectors, and Chromium for the same with `:scope` before each combinat
 case, so what has such elements is asked in exact case, and names are written in any case where there are none. It reads no flag `s`:
 each element there has its attributes a second time, behind `exact-`, and is asked for these in exact case.
 
+Where both differ, the selector is asked here once more as Chromium is known to read it (`CAUSES`): what is the same then has that cause.
+
 Elements are told by their numbers among those of the document, without the contents of templates. Pages of which Chromium builds another
 tree are left out.
 """
+import collections
 import random
 import re
 
@@ -29,8 +32,17 @@ DOCTYPES = ["", "<!doctype html>", "<!doctype html><html lang=en><head><title>t<
 OPS = ["=", "~=", "|=", "^=", "$=", "*="]
 PLAIN = "first-child last-child only-child first-of-type last-of-type only-of-type root scope scope empty".split()
 COUNTED = "nth-child nth-last-child nth-of-type nth-last-of-type".split()
+# What may stand before a key, the key, and an operator with a value.
+SPACE, KEY, VALUE = r"((?:\*(?:/\*\*/)?)?\|(?:/\*\*/)?|)", r"([^][=\"~|^$*/]+)", r'([~|^$*]?=)("[^"]*")'
 # A test with a flag `s`.
-EXACT = re.compile(r'\[(\*\||\|?)([^]="~|^$*]+)([~|^$*]?=)("[^"]*") s\]')
+EXACT = re.compile(rf"\[{SPACE}{KEY}{VALUE} s\]")
+# A test of a value behind a `|`, without a flag.
+SPACED = re.compile(rf"(\[(?=[*|]){SPACE}{KEY}{VALUE})\]")
+# Names and keys in which case counts among elements of svg or math.
+CASED_NAME = re.compile(r"(?<![-\w#.:[|])((?:\*(?:/\*\*/)?\|(?:/\*\*/)?)?)(foreignObject|linearGradient)")
+CASED_KEY = re.compile(rf"\[{SPACE}(viewBox|definitionURL)([^]]*)\]")
+# A namespace in a selector, and a comment.
+NAMESPACE, COMMENT = re.compile(r"\|(?!=)"), re.compile(r"/\*")
 FORMULAS = ["1", "2", "odd", "even", "2n+1", "-n+2", "3n", "n+2", "n"]
 # So many pages with so many selectors are asked at once.
 PAGES, SELECTORS = 50, 200
@@ -76,7 +88,7 @@ class Maker:
         return (key.lower() if self.is_foreign and key in ("DIR", "Rel") else self.cased(key)).replace(":", "\\:")
 
     def space(self):
-        return self.chance.choice(["", "", "", "", "|", "*|"])
+        return self.chance.choice(["", "", "", "", "", "", "", "|", "|", "*|", "*|", self.chance.choice(["|/**/", "*/**/|", "*|/**/", "*/**/|/**/"])])
 
     def test(self):
         value = self.chance.choice(VALUES).replace("\t", "\\9 ")
@@ -88,7 +100,7 @@ class Maker:
             return self.nested(depth + 1)
         return {
             "id": lambda: "#" + self.chance.choice(WORDS),
-            "class": lambda: "." + self.chance.choice(WORDS),
+            "class": lambda: self.chance.choice([".", ".", ".", ".", ".", "./**/"]) + self.chance.choice(WORDS),
             "key": lambda: f"[{self.space()}{self.key()}]",
             "value": self.test,
             "counted": lambda: f":{self.chance.choice(COUNTED)}({self.chance.choice(FORMULAS)})",
@@ -103,8 +115,8 @@ class Maker:
 
     def compound(self, depth):
         name = self.cased(self.chance.choice([*self.names, "*", "body", "html", "head", "p", "td"])) if self.chance.random() < 0.6 else ""
-        if name and self.chance.random() < 0.15:
-            name = self.chance.choice(["*|", "*|", "*|", "|"]) + name
+        if name and self.chance.random() < 0.2:
+            name = self.chance.choice(["*|", "*|", "*|", "*|", "*/**/|", "*/**/|/* a */", "|", "|/**/"]) + name
         return name + "".join(self.simple(depth) for _ in range(self.chance.choice([0, 0, 1, 1, 2] if name else [1, 1, 2])))
 
     def complex(self, depth):
@@ -136,6 +148,27 @@ def exactly(selector):
     return EXACT.sub(r"[\1exact-\2\3\4]", selector)
 
 
+def any_case(selector):
+    """The same with names and keys of svg and math as they are written or in lower case."""
+    named = CASED_NAME.sub(lambda it: f":is({it[0]}, {it[0].lower()})", selector)
+    return CASED_KEY.sub(lambda it: f":is({it[0]}, [{it[1]}{it[2].lower()}{it[3]}])", named)
+
+
+# Where Chromium departs from the standard, and the selector that asks here for what it finds.
+CAUSES = {
+    "it folds no value of a key behind a `|`": lambda it: SPACED.sub(r"\1 s]", it),
+    "it asks svg and math for names and keys in any case": any_case,
+}
+
+
+def cause_of(program, selector, is_relative, search, page, should):
+    """Why Chromium finds something else in a page; None where that isn't known."""
+    for cause, read in CAUSES.items():
+        if read(selector) != selector and found(program, read(selector), is_relative, search, [page]) == [should]:
+            return cause
+    return None
+
+
 def found(program, selector, is_relative, search, pages):
     """The numbers of the elements that the program finds in each page, or nothing where it reads no selector."""
     kind, number = search
@@ -148,9 +181,10 @@ def found(program, selector, is_relative, search, pages):
 
 
 def compared(words):
-    """Compares pairs of a page and a selector. How many differ."""
+    """Compares pairs of a page and a selector. How many differ for no known cause."""
     program, browser = words.program or helper_build("trees"), chromium()
-    pairs = hits = left_out = differ = 0
+    pairs = hits = left_out = 0
+    causes, forms = collections.Counter(), collections.Counter()
     for batch in range((words.runs + PAGES * SELECTORS - 1) // (PAGES * SELECTORS)):
         maker = Maker(words.seed * 10**6 + batch, batch % 2 == 0)
         made = [maker.page() for _ in range(PAGES)]
@@ -165,10 +199,16 @@ def compared(words):
             if ours is None or wanted is None:
                 continue
             pairs, hits = pairs + len(pages), hits + sum(map(bool, wanted))
+            for form in (NAMESPACE, COMMENT):
+                if form.search(selector):
+                    forms[form] += len(pages)
             for page, is_, should in zip(pages, ours, wanted):
                 if is_ != should:
-                    differ += 1
-                    if differ <= SHOWN:
-                        print(f"{selector!r} ({search}) in {page!r}: {is_}, and {should} in Chromium", flush=True)
-    print(f"{version(browser)}, {pairs} pairs of a page and a selector, of which {hits} find something: {differ} differ; {left_out} pages left out, as they have another tree there")
-    return differ
+                    cause = cause_of(program, selector, is_relative, search, page, should)
+                    causes[cause] += 1
+                    if causes.total() <= SHOWN:
+                        print(f"{selector!r} ({search}) in {page!r}: {is_}, and {should} in Chromium: {cause or 'of an unknown cause'}", flush=True)
+    print(f"{version(browser)}, {pairs} pairs of a page and a selector, of which {hits} find something, {forms[NAMESPACE]} have a namespace and {forms[COMMENT]} a comment: {causes.total()} differ; {left_out} pages left out, as they have another tree there")
+    for cause, count in causes.items():
+        print(f"{count}: {cause or 'of an unknown cause'}")
+    return causes[None]

@@ -490,6 +490,13 @@ By what names and values say, in pages that are read as browsers read them.
   3
   $ printf '<p x.y=1></p>' | tl select -n '[x\.y="1"]'
   3
+  $ printf '<svg><a xlink:href=x></a></svg><a href=y></a>' | tl select -n '*|a[|href]'
+  5
+  $ printf '<svg><a xlink:href=x></a></svg><a href=y></a>' | tl select -n '*/**/|a[*|/* a */href]'
+  4
+  5
+  $ printf '<p class=x></p>' | tl select -n 'p./**/x:/**/empty'
+  3
 
 What is said of texts that are no selectors: each cause, and each thing to write in its place.
 

@@ -59,6 +59,26 @@ class Reader:
                 raise CssError(self.i, "comment is not closed")
             self.i = end + 2
 
+    def inside(self):
+        """Passes comments between the parts of a simple selector, where white space may not stand; one that isn't closed stays."""
+        while self.t[self.i : self.i + 2] == b"/*" and b"*/" in self.t[self.i + 2 :]:
+            self.i = self.t.find(b"*/", self.i + 2) + 2
+
+    def bar(self, star):
+        """Passes a `|`, and a `*` before it where one is asked for, with comments; whether it stands here."""
+        at = self.i
+        if star and self.peek() == 0x2A:
+            self.i += 1
+            self.inside()
+        elif star:
+            return False
+        if self.peek() != 0x7C:
+            self.i = at
+            return False
+        self.i += 1
+        self.inside()
+        return True
+
     def escape(self):
         """From after a backslash, which no line feed follows: the bytes that it stands for."""
         j = self.i
@@ -196,12 +216,10 @@ class Reader:
             return part() if e is None else ("both", e, part())
 
         at = self.i
-        if self.peek() == 0x7C:
-            self.i += 1
+        if self.bar(star=False):
             self.local()
             e = taken(at, lambda: ("not", ("any",)))
-        elif self.peek() == 0x2A and self.peek(1) == 0x7C:
-            self.i += 2
+        elif self.bar(star=True):
             local = self.local()
             e = taken(at, lambda: local)
         elif self.peek() == 0x2A:
@@ -216,6 +234,8 @@ class Reader:
             at, b = self.i, self.peek()
             if b in (0x23, 0x2E):
                 self.i += 1
+                if b == 0x2E:
+                    self.inside()
                 part = ("id" if b == 0x23 else "class", self.name())
                 e = taken(at, lambda: part)
             elif b == 0x5B:
@@ -243,10 +263,7 @@ class Reader:
         self.i += 1
         self.white()
         # no key of these documents has a namespace
-        if self.peek() == 0x7C:
-            self.i += 1
-        elif self.peek() == 0x2A and self.peek(1) == 0x7C:
-            self.i += 2
+        self.bar(star=False) or self.bar(star=True)
         key = lower(self.name())
         self.white()
         b = self.peek()
@@ -295,6 +312,7 @@ class Reader:
         """A pseudo-class, read up to the list that it may have: what reads that list and answers the whole."""
         at = self.i
         self.i += 1
+        self.inside()
         if self.peek() == 0x3A:
             raise CssError(at, "pseudo-element")
         start = self.i

@@ -95,7 +95,7 @@ def compound(r, d):
     elif x < 0.55:
         first = "*"
     if first and r.random() < 0.08:
-        first = r.choice(["*|", "*|", "|"]) + first
+        first = r.choice(["*|", "*|", "|", "*/**/|", "|/**/"]) + first
     n = r.choice([0, 0, 1, 1, 2, 3]) if first else r.choice([1, 1, 2])
     for _ in range(n):
         out.append(simple(r, d))
@@ -107,11 +107,11 @@ def compound(r, d):
 def simple(r, d):
     x = r.random()
     if x < 0.18:
-        return "." + ident(r, r.choice(CLASSES))
+        return r.choice([".", ".", ".", "./**/"]) + ident(r, r.choice(CLASSES))
     if x < 0.26:
         return "#" + ident(r, r.choice(IDS))
     if x < 0.5:
-        k = r.choice(["", "", "", "", "", "", "|", "*|"]) + ident(r, casing(r, r.choice(KEYS + ["class", "id"])))
+        k = r.choice(["", "", "", "", "", "", "|", "*|", "*/**/|"]) + ident(r, casing(r, r.choice(KEYS + ["class", "id"])))
         if r.random() < 0.3:
             return "[" + ws(r) + k + ws(r) + "]"
         op = r.choice(["=", "~=", "|=", "^=", "$=", "*="])

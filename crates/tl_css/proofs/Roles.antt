@@ -11,7 +11,7 @@ use Rattle.tl_css.specs.declared.text.role.PseudoClass.{PseudoClass}
 use Rattle.tl_css.specs.declared.text.role.PseudoClass.TheVariants as p
 use Rattle.tl_css.specs.Selector.{Css}
 use Rattle.tl_css.specs.Read.{Read, ◌>>=◌, after_byte}
-use Rattle.tl_css.specs.Lexical.{begins, begins_name, name_at, lower_run, is_word, gap_at}
+use Rattle.tl_css.specs.Lexical.{begins, begins_name, name_at, lower_run, is_word, gap_at, past_comments}
 use Rattle.tl_css.specs.Formula.{formula_at}
 use Rattle.tl_css.specs.Attribute.{attribute_at}
 use Rattle.tl_css.specs.PseudoClass.{Simple, Whole, Opens, plain_class, nth_class, list_class, or_else, pseudo_class, begins_argument, whole_at, is_sibling, after_formula, nth_at, argument_at, class_at, class_by, pseudo_at}
@@ -119,20 +119,20 @@ pseudo_inner colon s = if_both Fine (begins (λ b. b == byte ":") s) _ _ (λ _. 
 
 simple_inner : (s : List ℕ) → Fine (simple_at s)
 simple_inner [] = tt
-simple_inner (b ∷ s) = if_both Fine (b == byte ":") _ _ (λ _. pseudo_inner (b ∷ s) s)
+simple_inner (b ∷ s) = if_both Fine (b == byte ":") _ _ (λ _. pseudo_inner (b ∷ s) (past_comments s))
     (λ _. if_both Fine (b == byte "[") _ _ (λ _. bound IsInner (attribute_at (length (b ∷ s)) s) _ (λ _. tt))
     (λ _. if_both Fine (b == byte "#") _ _ (λ _. bound IsInner (name_at s) _ (λ _. tt))
-    (λ _. if_both Fine (b == byte ".") _ _ (λ _. bound IsInner (name_at s) _ (λ _. tt))
+    (λ _. if_both Fine (b == byte ".") _ _ (λ _. bound IsInner (name_at (past_comments s)) _ (λ _. tt))
     (λ _. if_both Fine (b == byte "&") _ _ (λ _. tt) (λ _. tt)))))
 
 star_inner : (s : List ℕ) (o : Option (List ℕ)) → Fine (star_by s o)
 star_inner s None = tt
-star_inner s (Some rest) = bound IsInner (type_at rest) _ (λ _. tt)
+star_inner s (Some rest) = bound IsInner (type_at (past_comments rest)) _ (λ _. tt)
 
 first_inner : (s : List ℕ) → Fine (first_at s)
 first_inner [] = tt
-first_inner (b ∷ s) = if_both Fine (b == byte "*") _ _ (λ _. star_inner s (after_byte (byte "|") s))
-    (λ _. if_both Fine (b == byte "|") _ _ (λ _. bound IsInner (type_at s) _ (λ _. tt))
+first_inner (b ∷ s) = if_both Fine (b == byte "*") _ _ (λ _. star_inner s (after_byte (byte "|") (past_comments s)))
+    (λ _. if_both Fine (b == byte "|") _ _ (λ _. bound IsInner (type_at (past_comments s)) _ (λ _. tt))
     (λ _. if_both Fine (begins_name (b ∷ s)) _ _ (λ _. tt) (λ _. simple_inner (b ∷ s))))
 
 by_which : (first : Bool) (s : List ℕ) → Fine (simple_by first s)

@@ -10,9 +10,9 @@ use Rattle.tl_spec.proofs.Lex.Many.{Shrinks, many-none, many-some}
 use Rattle.tl_css.specs.Read.{Read}
 use Rattle.tl_css.specs.TextView.{without}
 use Rattle.std.specs.Char.{to_ascii_lowercase}
-use Rattle.tl_spec.proofs.Lex.Shrinks.{if_both, after-le, IsLe, IsLe-more}
+use Rattle.tl_spec.proofs.Lex.Shrinks.{if_both, after-le, IsLe, IsLe-more, many-le}
 use Rattle.tl_css.specs.Bytes.{is_newline, is_white, backslash, is_hex, hex_number, char_of}
-use Rattle.tl_css.specs.Lexical.{past_white, begins, past_escape, escape_by, escape_at, is_plain, escaped_at, part_at, joined, run_at, after_comment, gap_part_at, gap_result, gap_after, gap_at, is_word}
+use Rattle.tl_css.specs.Lexical.{past_white, begins, past_escape, escape_by, escape_at, is_plain, escaped_at, part_at, joined, run_at, after_comment, comment_at, past_comments, gap_part_at, gap_result, gap_after, gap_at, is_word}
 
 pub past_white_le : (s : List ℕ) → length (past_white s) ≤ length s
 past_white_le [] = omega arith
@@ -105,10 +105,40 @@ below_comment : (b : ℕ) (s : List ℕ) (o : Option (List ℕ)) → IsLe (lengt
 below_comment b s None h = tt
 below_comment b s (Some rest) h = omega arith
 
+comment_below : (s : List ℕ) → Below s (comment_at s)
+comment_below [] = tt
+comment_below (b ∷ s) = below_comment b s (after_comment (b ∷ s)) (after_comment_le b s)
+
+comment_shrinks : Shrinks comment_at
+comment_shrinks s found e = subst (λ (o : Option (Bool × List ℕ)). Below s o) e (comment_below s)
+
+comment_is : (s rest : List ℕ) → Some rest ≡ after_comment s → comment_at s ≡ Some (false, rest)
+comment_is s rest e = ap (λ (o : Option (List ℕ)). option_map (λ rest. (false, rest)) o) (sym e)
+
+pub comment_lt : (s rest : List ℕ) → Some rest ≡ after_comment s → length rest < length s
+comment_lt s rest e = comment_shrinks s (false, rest) (comment_is s rest e)
+
+pub past_comments_le : (s : List ℕ) → length (past_comments s) ≤ length s
+unfolding past_comments
+past_comments_le s = many-le comment_at comment_shrinks (length s) s
+
+pub past_some : (s rest : List ℕ) → Some rest ≡ after_comment s → past_comments rest ≡ past_comments s
+unfolding past_comments
+past_some s rest e =
+    let less = comment_lt s rest e in
+    sym (ap (λ (parts : List Bool × List ℕ). parts.1)
+    (many-some comment_at comment_shrinks s (false, rest) (comment_is s rest e) (length s) (length rest) (omega arith) (omega arith)))
+
+pub past_none : (s : List ℕ) → None ≡ after_comment s → past_comments s ≡ s
+unfolding past_comments
+past_none s e =
+    ap (λ (parts : List Bool × List ℕ). parts.1)
+    (many-none comment_at s (ap (λ (o : Option (List ℕ)). option_map (λ rest. (false, rest)) o) (sym e)))
+
 pub gap_part_below : (s : List ℕ) → Below s (gap_part_at s)
 gap_part_below [] = tt
 gap_part_below (b ∷ s) = if_both (λ (o : Option (Bool × List ℕ)). Below (b ∷ s) o) (is_white b) _ _ (λ _. omega arith)
-    (λ _. below_comment b s (after_comment (b ∷ s)) (after_comment_le b s))
+    (λ _. comment_below (b ∷ s))
 
 pub gap_shrinks : Shrinks gap_part_at
 gap_shrinks s found e = subst (λ (o : Option (Bool × List ℕ)). Below s o) e (gap_part_below s)

@@ -21,12 +21,12 @@ use Rattle.tl_css.specs.declared.text.role.PseudoClass.TheVariants as p
 use Rattle.tl_css.specs.Selector.{Css, Ident, Test, Value}
 use Rattle.tl_css.specs.Bytes.{decimal_number}
 use Rattle.tl_css.specs.Read.{Read, wrong, ◌>>=◌, after_byte}
-use Rattle.tl_css.specs.Lexical.{part_at, run_at, begins, begins_name, name_at, lower_run, is_word, begins_comment, gap_part_at, gap_at}
+use Rattle.tl_css.specs.Lexical.{part_at, run_at, begins, begins_name, name_at, lower_run, is_word, begins_comment, gap_part_at, gap_at, past_comments}
 use Rattle.tl_css.specs.Formula.{largest, digits_by, digits_at, is_n, is_sign, sign_at, with_sign, begins_keyword, end_formula, after_n, terms_at, formula_at}
 use Rattle.tl_css.specs.Attribute.{starred_by, space_at, key_at, op_of, op_by, op_at, string_by, value_at, flag_at, close_at, match_at, after_key, attribute_at}
 use Rattle.tl_css.specs.PseudoClass.{Simple, pseudo_class, begins_argument, whole_at, is_sibling, after_formula, nth_at, argument_at, class_at, class_by, pseudo_at}
 use Rattle.tl_css.specs.Item.{simple_at, star_by, type_at, first_at}
-use Rattle.tl_css.proofs.Runs.{part_shrinks, gap_shrinks, run_some}
+use Rattle.tl_css.proofs.Runs.{part_shrinks, gap_shrinks, run_some, past_comments_le}
 use Rattle.tl_css.specs.SimpleGrammar.{GapStands}
 use Rattle.tl_css.proofs.Leaf.{simple_by, SimpleReads}
 
@@ -60,6 +60,9 @@ gap_le s =
     let le = many-le gap_part_at gap_shrinks (length s) s in
     if_both (λ (r : Read Bool). Le (length s) r) (begins_comment (read_many gap_part_at (length s) s).1) _ _ (λ _. tt) (λ _. le)
 
+past_within : (n : ℕ) (s : List ℕ) → length s ≤ n → length (past_comments s) ≤ n
+past_within n s h = let le = past_comments_le s in omega arith
+
 gap_within : (n : ℕ) (s : List ℕ) → length s ≤ n → Le n (gap_at s)
 gap_within n s h =
     let step : (r : Read Bool) → Le (length s) r → Le n r = elim [ Ok p ↦ λ le. omega arith | Err w ↦ λ le. tt ] in
@@ -74,18 +77,28 @@ after_byte_le : (b : ℕ) (s : List ℕ) → IfSome (after_byte b s) (λ rest. l
 after_byte_le b [] = tt
 after_byte_le b (c ∷ s) = if_both (λ (o : Option (List ℕ)). IfSome o (λ rest. length rest ≤ length (c ∷ s))) (c == b) _ _ (λ _. omega arith) (λ _. tt)
 
+-- the same after comments
+after_past_le : (b : ℕ) (s : List ℕ) → IfSome (after_byte b (past_comments s)) (λ rest. length rest ≤ length s)
+after_past_le b s =
+    let le = past_comments_le s in
+    let step : (o : Option (List ℕ)) → IfSome o (λ rest. length rest ≤ length (past_comments s)) → IfSome o (λ rest. length rest ≤ length s) = elim [
+      | None ↦ λ h. tt
+      | Some rest ↦ λ h. omega arith
+    ] in
+    step (after_byte b (past_comments s)) (after_byte_le b (past_comments s))
+
 starred_le : (n b : ℕ) (s : List ℕ) (o : Option (List ℕ)) → length (b ∷ s) ≤ n → IfSome o (λ rest. length rest ≤ length s)
     → length (starred_by (b ∷ s) o).1 ≤ n
 starred_le n b s None h le = h
-starred_le n b s (Some rest) h le = omega arith
+starred_le n b s (Some rest) h le = past_within n rest (omega arith)
 
 space_le : (n : ℕ) (s : List ℕ) → length s ≤ n → length (space_at s).1 ≤ n
 space_le n [] h = h
 space_le n (b ∷ s) h =
     let less : length s ≤ n = omega arith in
-    if_both (λ (p : Space × List ℕ). length p.1 ≤ n) (b == byte "|") _ _ (λ _. less)
+    if_both (λ (p : Space × List ℕ). length p.1 ≤ n) (b == byte "|") _ _ (λ _. past_within n s less)
     (λ _. if_both (λ (p : Space × List ℕ). length p.1 ≤ n) (b == byte "*") _ _
-    (λ _. starred_le n b s (after_byte (byte "|") s) h (after_byte_le (byte "|") s)) (λ _. h))
+    (λ _. starred_le n b s (after_byte (byte "|") (past_comments s)) h (after_past_le (byte "|") s)) (λ _. h))
 
 key_le : (n : ℕ) (s : List ℕ) → length s ≤ n → Le n (key_at s)
 key_le n s h = le_bind n n (name_at (space_at s).1) _ (name_within n (space_at s).1 (space_le n s h)) (λ p le. le)
@@ -243,10 +256,11 @@ simple_le : (b : ℕ) (s : List ℕ) → Le (length s) (simple_at (b ∷ s))
 simple_le b s =
     let n = length s in
     let same : length s ≤ n = omega arith in
-    if_both (λ (r : Read Simple). Le n r) (b == byte ":") _ _ (λ _. pseudo_le n (b ∷ s) s same)
+    if_both (λ (r : Read Simple). Le n r) (b == byte ":") _ _ (λ _. pseudo_le n (b ∷ s) (past_comments s) (past_within n s same))
     (λ _. if_both (λ (r : Read Simple). Le n r) (b == byte "[") _ _ (λ _. le_bind n n (attribute_at (length (b ∷ s)) s) _ (attribute_le n (length (b ∷ s)) s same) (λ p le. le))
     (λ _. if_both (λ (r : Read Simple). Le n r) (b == byte "#") _ _ (λ _. le_bind n n (name_at s) _ (name_within n s same) (λ p le. le))
-    (λ _. if_both (λ (r : Read Simple). Le n r) (b == byte ".") _ _ (λ _. le_bind n n (name_at s) _ (name_within n s same) (λ p le. le))
+    (λ _. if_both (λ (r : Read Simple). Le n r) (b == byte ".") _ _
+    (λ _. le_bind n n (name_at (past_comments s)) _ (name_within n (past_comments s) (past_within n s same)) (λ p le. le))
     (λ _. if_both (λ (r : Read Simple). Le n r) (b == byte "&") _ _ (λ _. same) (λ _. tt)))))
 
 type_le : (n : ℕ) (s : List ℕ) → length s ≤ n → Le n (type_at s)
@@ -257,14 +271,15 @@ type_le n (b ∷ s) h =
 
 star_le : (n : ℕ) (s : List ℕ) (o : Option (List ℕ)) → length s ≤ n → IfSome o (λ rest. length rest ≤ length s) → Le n (star_by s o)
 star_le n s None h le = h
-star_le n s (Some rest) h le = le_bind n n (type_at rest) _ (type_le n rest (omega arith)) (λ p less. less)
+star_le n s (Some rest) h le = le_bind n n (type_at (past_comments rest)) _ (type_le n (past_comments rest) (past_within n rest (omega arith))) (λ p less. less)
 
 first_le : (b : ℕ) (s : List ℕ) → Le (length s) (first_at (b ∷ s))
 first_le b s =
     let n = length s in
     let same : length s ≤ n = omega arith in
-    if_both (λ (r : Read Simple). Le n r) (b == byte "*") _ _ (λ _. star_le n s (after_byte (byte "|") s) same (after_byte_le (byte "|") s))
-    (λ _. if_both (λ (r : Read Simple). Le n r) (b == byte "|") _ _ (λ _. le_bind n n (type_at s) _ (type_le n s same) (λ p le. le))
+    if_both (λ (r : Read Simple). Le n r) (b == byte "*") _ _ (λ _. star_le n s (after_byte (byte "|") (past_comments s)) same (after_past_le (byte "|") s))
+    (λ _. if_both (λ (r : Read Simple). Le n r) (b == byte "|") _ _
+    (λ _. le_bind n n (type_at (past_comments s)) _ (type_le n (past_comments s) (past_within n s same)) (λ p le. le))
     (λ _. if_both (λ (r : Read Simple). Le n r) (begins_name (b ∷ s)) _ _
     (λ e. let less = run_lt (b ∷ s) e in let le : length (run_at None (b ∷ s)).1 ≤ n = omega arith in le) (λ _. simple_le b s)))
 

@@ -25,7 +25,7 @@ use Rattle.tl_css.specs.declared.text.role.PseudoClass.{PseudoClass}
 use Rattle.tl_css.specs.declared.text.role.PseudoClass.TheVariants as p
 use Rattle.tl_css.specs.Selector.{Css, Ident, ident_of, Test, Any, Is, Name, Value}
 use Rattle.tl_css.specs.Read.{Read, wrong, wrong_at, ◌>>=◌, after_byte}
-use Rattle.tl_css.specs.Lexical.{part_at, run_at, begins, begins_name, name_at, lower_run, is_word, gap_at}
+use Rattle.tl_css.specs.Lexical.{part_at, run_at, begins, begins_name, name_at, lower_run, is_word, gap_at, past_comments}
 use Rattle.tl_css.specs.Formula.{formula_at}
 use Rattle.tl_css.specs.Attribute.{op_of, op_by, starred_by, space_at, key_at, op_at, string_by, value_at, flag_at, close_at, match_at, after_key, attribute_at}
 use Rattle.tl_css.specs.PseudoClass.{Simple, Whole, Opens, nowhere, outermost, pseudo_class, begins_argument, whole_at, is_sibling, after_formula, nth_at, argument_at, class_at, class_by, pseudo_at}
@@ -102,20 +102,19 @@ data KeyIs : List ℕ → Space × Ident → List ℕ → Type 0 where
 abbrev keyed : Space × List ℕ → Read (Space × Ident)
 keyed p = name_at p.1 >>= λ name. Ok ((p.0, ident_of name.0), name.1)
 
-star_key : (b : ℕ) (s : List ℕ) (o : Option (List ℕ)) → (b == byte "*") ≡ true → after_byte (byte "|") s ≡ o → Reads (KeyIs (b ∷ s)) (keyed (starred_by (b ∷ s) o))
+star_key : (b : ℕ) (s : List ℕ) (o : Option (List ℕ)) → (b == byte "*") ≡ true → after_byte (byte "|") (past_comments s) ≡ o → Reads (KeyIs (b ∷ s)) (keyed (starred_by (b ∷ s) o))
 star_key b s None e is = reads_bind (KeyIs (b ∷ s)) (name_at (b ∷ s)) _ (λ name h. key_is (plain_key h))
 star_key b s (Some rest) e is =
-    let front : b ∷ s ≡ byte "*" ∷ byte "|" ∷ rest =
-    ap (λ (c : ℕ). c ∷ s) (eqb-true b (byte "*") e) ∙ ap (λ (t : List ℕ). byte "*" ∷ t) (after_byte_is (byte "|") s rest is) in
-    subst (λ (t : List ℕ). Reads (KeyIs t) (keyed (Every, rest))) (sym front)
-    (reads_bind (KeyIs (byte "*" ∷ byte "|" ∷ rest)) (name_at rest) _ (λ name h. key_is (every_space h)))
+    let bar = after_byte_is (byte "|") (past_comments s) rest is in
+    subst (λ (c : ℕ). Reads (KeyIs (c ∷ s)) (keyed (Every, past_comments rest))) (sym (eqb-true b (byte "*") e))
+    (reads_bind (KeyIs (byte "*" ∷ s)) (name_at (past_comments rest)) _ (λ name h. key_is (every_space bar h)))
 
 key_reads : (s : List ℕ) → Reads (KeyIs s) (key_at s)
 key_reads [] = tt
 key_reads (b ∷ s) = if_both (λ (p : Space × List ℕ). Reads (KeyIs (b ∷ s)) (keyed p)) (b == byte "|") _ _
-    (λ e. subst (λ (c : ℕ). Reads (KeyIs (c ∷ s)) (keyed (Bare, s))) (sym (eqb-true b (byte "|") e))
-    (reads_bind (KeyIs (byte "|" ∷ s)) (name_at s) _ (λ name h. key_is (bare_space h))))
-    (λ _. if_both (λ (p : Space × List ℕ). Reads (KeyIs (b ∷ s)) (keyed p)) (b == byte "*") _ _ (λ e. star_key b s (after_byte (byte "|") s) e refl)
+    (λ e. subst (λ (c : ℕ). Reads (KeyIs (c ∷ s)) (keyed (Bare, past_comments s))) (sym (eqb-true b (byte "|") e))
+    (reads_bind (KeyIs (byte "|" ∷ s)) (name_at (past_comments s)) _ (λ name h. key_is (bare_space h))))
+    (λ _. if_both (λ (p : Space × List ℕ). Reads (KeyIs (b ∷ s)) (keyed p)) (b == byte "*") _ _ (λ e. star_key b s (after_byte (byte "|") (past_comments s)) e refl)
     (λ _. reads_bind (KeyIs (b ∷ s)) (name_at (b ∷ s)) _ (λ name h. key_is (plain_key h))))
 
 close_reads : (P : Test → List ℕ → Type 0) (opened : ℕ) (s : List ℕ) (test : Test) → ((rest : List ℕ) → s ≡ byte "]" ∷ rest → P test rest)
@@ -233,9 +232,9 @@ pseudo_reads colon s = if_both (λ (r : Read Simple). Reads (PseudoIs s) r) (beg
 -- what a simple selector is, up to its list
 abbrev pub SimpleIs : Bool → List ℕ → Simple → List ℕ → Type 0
 SimpleIs first s (Whole e) rest = SimpleStands first s e rest
-SimpleIs first s (Opens role left) rest = (m : List ℕ) × (s ≡ byte ":" ∷ m) × ListBegins m role rest
+SimpleIs first s (Opens role left) rest = (m : List ℕ) × (s ≡ byte ":" ∷ m) × ListBegins (past_comments m) role rest
 
-pseudo_simple : (first : Bool) (m : List ℕ) (x : Simple) (rest : List ℕ) → PseudoIs m x rest → SimpleIs first (byte ":" ∷ m) x rest
+pseudo_simple : (first : Bool) (m : List ℕ) (x : Simple) (rest : List ℕ) → PseudoIs (past_comments m) x rest → SimpleIs first (byte ":" ∷ m) x rest
 pseudo_simple first m (Whole e) rest h = pseudo h
 pseudo_simple first m (Opens role left) rest h = (m, refl, h)
 
@@ -246,20 +245,20 @@ at_byte first b c s r e h = subst (λ (b : ℕ). Reads (SimpleIs first (b ∷ s)
 simple_reads : (first : Bool) (b : ℕ) (s : List ℕ) → Reads (SimpleIs first (b ∷ s)) (simple_at (b ∷ s))
 simple_reads first b s =
     if_both (λ (r : Read Simple). Reads (SimpleIs first (b ∷ s)) r) (b == byte ":") _ _
-    (λ e. at_byte first b (byte ":") s (pseudo_at (b ∷ s) s) e
-    (reads_map (pseudo_at (b ∷ s) s) (pseudo_reads (b ∷ s) s)))
+    (λ e. at_byte first b (byte ":") s (pseudo_at (b ∷ s) (past_comments s)) e
+    (reads_map (pseudo_at (b ∷ s) (past_comments s)) (pseudo_reads (b ∷ s) (past_comments s))))
     (λ _. if_both (λ (r : Read Simple). Reads (SimpleIs first (b ∷ s)) r) (b == byte "[") _ _
     (λ e. at_byte first b (byte "[") s _ e
     (reads_then (AttributeStands s) (SimpleIs first (byte "[" ∷ s)) (attribute_at (length (b ∷ s)) s) _ (attribute_reads (length (b ∷ s)) s) (λ test h. attribute h)))
     (λ _. if_both (λ (r : Read Simple). Reads (SimpleIs first (b ∷ s)) r) (b == byte "#") _ _
     (λ e. at_byte first b (byte "#") s _ e (reads_bind (SimpleIs first (byte "#" ∷ s)) (name_at s) _ (λ name h. id h)))
     (λ _. if_both (λ (r : Read Simple). Reads (SimpleIs first (b ∷ s)) r) (b == byte ".") _ _
-    (λ e. at_byte first b (byte ".") s _ e (reads_bind (SimpleIs first (byte "." ∷ s)) (name_at s) _ (λ name h. class h)))
+    (λ e. at_byte first b (byte ".") s _ e (reads_bind (SimpleIs first (byte "." ∷ s)) (name_at (past_comments s)) _ (λ name h. class h)))
     (λ _. if_both (λ (r : Read Simple). Reads (SimpleIs first (b ∷ s)) r) (b == byte "&") _ _
     (λ e. at_byte first b (byte "&") s (Ok (Whole (outermost Scope), s)) e (nesting {first = first} {s = s}))
     (λ _. tt)))))
   where
-    reads_map : (r : Read Simple) → Reads (PseudoIs s) r → Reads (SimpleIs first (byte ":" ∷ s)) r
+    reads_map : (r : Read Simple) → Reads (PseudoIs (past_comments s)) r → Reads (SimpleIs first (byte ":" ∷ s)) r
     reads_map (Ok p) h = pseudo_simple first s p.0 p.1 h
     reads_map (Err w) h = tt
 
@@ -277,18 +276,18 @@ no_bar : (s : List ℕ) → after_byte (byte "|") s ≡ None → begins_bar s �
 no_bar [] h = refl
 no_bar (b ∷ s) h = no_bar_by (b == byte "|") s h
 
-star_reads : (s : List ℕ) (o : Option (List ℕ)) → after_byte (byte "|") s ≡ o → Reads (SimpleIs true (byte "*" ∷ s)) (star_by s o)
-star_reads s None is = any (no_bar s is)
+star_reads : (s : List ℕ) (o : Option (List ℕ)) → after_byte (byte "|") (past_comments s) ≡ o → Reads (SimpleIs true (byte "*" ∷ s)) (star_by s o)
+star_reads s None is = any (no_bar (past_comments s) is)
 star_reads s (Some rest) is =
-    subst (λ (t : List ℕ). Reads (SimpleIs true (byte "*" ∷ t)) (star_by s (Some rest))) (sym (after_byte_is (byte "|") s rest is))
-    (reads_then (TypeStands rest) (SimpleIs true (byte "*" ∷ byte "|" ∷ rest)) (type_at rest) _ (type_reads rest) (λ test h. every_type h))
+    let bar = after_byte_is (byte "|") (past_comments s) rest is in
+    reads_then (TypeStands (past_comments rest)) (SimpleIs true (byte "*" ∷ s)) (type_at (past_comments rest)) _ (type_reads (past_comments rest)) (λ test h. every_type bar h)
 
 first_reads_as : (b : ℕ) (s : List ℕ) → Reads (SimpleIs true (b ∷ s)) (first_at (b ∷ s))
 first_reads_as b s = if_both (λ (r : Read Simple). Reads (SimpleIs true (b ∷ s)) r) (b == byte "*") _ _
-    (λ e. at_byte true b (byte "*") s (star_by s (after_byte (byte "|") s)) e (star_reads s (after_byte (byte "|") s) refl))
+    (λ e. at_byte true b (byte "*") s (star_by s (after_byte (byte "|") (past_comments s))) e (star_reads s (after_byte (byte "|") (past_comments s)) refl))
     (λ _. if_both (λ (r : Read Simple). Reads (SimpleIs true (b ∷ s)) r) (b == byte "|") _ _
-    (λ e. at_byte true b (byte "|") s (type_at s >>= λ test. Ok (Whole nowhere, test.1)) e
-    (reads_then (TypeStands s) (SimpleIs true (byte "|" ∷ s)) (type_at s) _ (type_reads s) (λ test h. bare_type h)))
+    (λ e. at_byte true b (byte "|") s (type_at (past_comments s) >>= λ test. Ok (Whole nowhere, test.1)) e
+    (reads_then (TypeStands (past_comments s)) (SimpleIs true (byte "|" ∷ s)) (type_at (past_comments s)) _ (type_reads (past_comments s)) (λ test h. bare_type h)))
     (λ _. if_both (λ (r : Read Simple). Reads (SimpleIs true (b ∷ s)) r) (begins_name (b ∷ s)) _ _ (λ n. type (name_stands (b ∷ s) n)) (λ _. simple_reads true b s)))
 
 simples_read : (first : Bool) (s : List ℕ) → Reads (SimpleIs first s) (simple_by first s)
@@ -312,14 +311,18 @@ never h = cc
 not_byte : (b c : ℕ) (t : List ℕ) → begins_name (b ∷ t) ≡ true → begins_name (c ∷ t) ≡ false → (b == c) ≡ false
 not_byte b c t h other = differs b c (λ (e : b ≡ c). never (sym other ∙ subst (λ (b : ℕ). begins_name (b ∷ t) ≡ true) e h))
 
+after_bar : (s rest : List ℕ) → past_comments s ≡ byte "|" ∷ rest → after_byte (byte "|") (past_comments s) ≡ Some rest
+after_bar s rest h = ap (λ (t : List ℕ). after_byte (byte "|") t) h
+
 no_space : (s : List ℕ) → begins_name s ≡ true → space_at s ≡ (Bare, s)
 no_space [] h = refl
 no_space (b ∷ t) h = if_no _ _ _ (not_byte b (byte "|") t h refl) ∙ if_no _ _ _ (not_byte b (byte "*") t h refl)
 
 key_read : (s own rest : List ℕ) (space : Space) → KeyStands s space own rest → key_at s ≡ Ok ((space, ident_of own), rest)
 key_read s own rest space (plain_key h) = ap keyed (no_space s (name_is s own rest h).0) ∙ bind_to (name_at s) _ _ _ h refl
-key_read s own rest space (bare_space {s = t} h) = bind_to (name_at t) _ _ _ h refl
-key_read s own rest space (every_space {s = t} h) = bind_to (name_at t) _ _ _ h refl
+key_read s own rest space (bare_space {s = t} h) = bind_to (name_at (past_comments t)) _ _ _ h refl
+key_read s own rest space (every_space {s = t} {a = a} bar h) =
+    ap (λ (o : Option (List ℕ)). keyed (starred_by (byte "*" ∷ t) o)) (after_bar t a bar) ∙ bind_to (name_at (past_comments a)) _ _ _ h refl
 
 bare_read : (opened : ℕ) (s own rest : List ℕ) → NameStands s own rest → value_at opened s ≡ Ok (own, rest)
 bare_read opened [] own rest h = absurd (never (name_is [] own rest h).0)
@@ -411,20 +414,20 @@ of_read opened way formula (x ∷ t) rest h =
     if_no _ _ _ (not_byte x (byte ")") t is.0 refl)
     ∙ (if_yes _ _ _ (ap (λ (own : List ℕ). bytes_eq own (codes "of")) is.1) ∙ ap (λ (r : List ℕ). Ok (Opens (NthOf way formula) opened, r)) is.2)
 
-pub list_read : (first : Bool) (s : List ℕ) (role : Role) (rest : List ℕ) → ListBegins s role rest
+pub list_read : (first : Bool) (s : List ℕ) (role : Role) (rest : List ℕ) → ListBegins (past_comments s) role rest
     → (left : ℕ) × (simple_by first (byte ":" ∷ s) ≡ Ok (Opens role left, rest))
 list_read true s role rest (list_class {word = own} name is) =
-    (length (byte "(" ∷ rest), class_read (byte ":" ∷ s) s own (byte "(" ∷ rest) (p.List role) _ name is refl)
+    (length (byte "(" ∷ rest), class_read (byte ":" ∷ s) (past_comments s) own (byte "(" ∷ rest) (p.List role) _ name is refl)
 list_read false s role rest (list_class {word = own} name is) =
-    (length (byte "(" ∷ rest), class_read (byte ":" ∷ s) s own (byte "(" ∷ rest) (p.List role) _ name is refl)
+    (length (byte "(" ∷ rest), class_read (byte ":" ∷ s) (past_comments s) own (byte "(" ∷ rest) (p.List role) _ name is refl)
 list_read true s role rest (of_class {word = own} {a = a} {b = b} {c = c} {d = d} {v = v} {way = way} {formula = formula} name is gap f after of) = (
   length (byte "(" ∷ a),
-  class_read (byte ":" ∷ s) s own (byte "(" ∷ a) (p.Nth way Sibling) _ name is
+  class_read (byte ":" ∷ s) (past_comments s) own (byte "(" ∷ a) (p.Nth way Sibling) _ name is
       (nth_read (length (byte "(" ∷ a)) way Sibling a b c d v true formula _ gap f after (of_read (length (byte "(" ∷ a)) way formula d rest of)),
 )
 list_read false s role rest (of_class {word = own} {a = a} {b = b} {c = c} {d = d} {v = v} {way = way} {formula = formula} name is gap f after of) = (
   length (byte "(" ∷ a),
-  class_read (byte ":" ∷ s) s own (byte "(" ∷ a) (p.Nth way Sibling) _ name is
+  class_read (byte ":" ∷ s) (past_comments s) own (byte "(" ∷ a) (p.Nth way Sibling) _ name is
       (nth_read (length (byte "(" ∷ a)) way Sibling a b c d v true formula _ gap f after (of_read (length (byte "(" ∷ a)) way formula d rest of)),
 )
 
@@ -447,17 +450,18 @@ bar_none [] h = refl
 bar_none (b ∷ s) h = if_no _ _ _ h
 
 pub simple_read : (first : Bool) (s : List ℕ) (e : Css) (rest : List ℕ) → SimpleStands first s e rest → simple_by first s ≡ Ok (Whole e, rest)
-simple_read first s e rest (any {s = t} none) = ap (star_by t) (bar_none t none)
-simple_read first s e rest (every_type {s = t} {test = test} h) = bind_to (type_at t) _ _ _ (typed_read t test rest h) refl
-simple_read first s e rest (bare_type {s = t} {test = test} h) = bind_to (type_at t) _ _ _ (typed_read t test rest h) refl
+simple_read first s e rest (any {s = t} none) = ap (star_by t) (bar_none (past_comments t) none)
+simple_read first s e rest (every_type {s = t} {a = a} {test = test} bar h) =
+    ap (star_by t) (after_bar t a bar) ∙ bind_to (type_at (past_comments a)) _ _ _ (typed_read (past_comments a) test rest h) refl
+simple_read first s e rest (bare_type {s = t} {test = test} h) = bind_to (type_at (past_comments t)) _ _ _ (typed_read (past_comments t) test rest h) refl
 simple_read first s e rest (type {name = own} h) = type_read s own rest h
 simple_read true s e rest nesting = refl
 simple_read false s e rest nesting = refl
 simple_read true s e rest (id {s = t} h) = bind_to (name_at t) _ _ _ h refl
 simple_read false s e rest (id {s = t} h) = bind_to (name_at t) _ _ _ h refl
-simple_read true s e rest (class {s = t} h) = bind_to (name_at t) _ _ _ h refl
-simple_read false s e rest (class {s = t} h) = bind_to (name_at t) _ _ _ h refl
+simple_read true s e rest (class {s = t} h) = bind_to (name_at (past_comments t)) _ _ _ h refl
+simple_read false s e rest (class {s = t} h) = bind_to (name_at (past_comments t)) _ _ _ h refl
 simple_read true s e rest (attribute {s = t} {test = test} h) = bind_to (attribute_at (length (byte "[" ∷ t)) t) _ _ _ (attribute_read (length (byte "[" ∷ t)) t test rest h) refl
 simple_read false s e rest (attribute {s = t} {test = test} h) = bind_to (attribute_at (length (byte "[" ∷ t)) t) _ _ _ (attribute_read (length (byte "[" ∷ t)) t test rest h) refl
-simple_read true s e rest (pseudo {s = t} h) = pseudo_read (byte ":" ∷ t) t e rest h
-simple_read false s e rest (pseudo {s = t} h) = pseudo_read (byte ":" ∷ t) t e rest h
+simple_read true s e rest (pseudo {s = t} h) = pseudo_read (byte ":" ∷ t) (past_comments t) e rest h
+simple_read false s e rest (pseudo {s = t} h) = pseudo_read (byte ":" ∷ t) (past_comments t) e rest h

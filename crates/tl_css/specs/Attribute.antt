@@ -12,17 +12,17 @@ use Rattle.tl_css.specs.declared.selector.Space.{Space}
 use Rattle.tl_css.specs.declared.selector.Space.TheVariants.{Bare, Every}
 use Rattle.tl_css.specs.Selector.{Ident, ident_of, Test, Key, Value}
 use Rattle.tl_css.specs.Read.{Read, wrong, wrong_at, ◌>>=◌, after_byte}
-use Rattle.tl_css.specs.Lexical.{run_at, begins_name, name_at, is_word, gap_at}
+use Rattle.tl_css.specs.Lexical.{run_at, begins_name, name_at, is_word, gap_at, past_comments}
 
 -- what stands before a name: `|` for no namespace, `*|` for any; nothing says the same as `|`
 abbrev pub starred_by : List ℕ → Option (List ℕ) → Space × List ℕ
 starred_by s None = (Bare, s)
-starred_by s (Some rest) = (Every, rest)
+starred_by s (Some rest) = (Every, past_comments rest)
 
 abbrev pub space_at : List ℕ → Space × List ℕ
 space_at [] = (Bare, [])
-space_at (b ∷ s) = if b == byte "|" then (Bare, s)
-    else (if b == byte "*" then starred_by (b ∷ s) (after_byte (byte "|") s)
+space_at (b ∷ s) = if b == byte "|" then (Bare, past_comments s)
+    else (if b == byte "*" then starred_by (b ∷ s) (after_byte (byte "|") (past_comments s))
     else (Bare, b ∷ s))
 
 -- a key, and the namespaces that it is looked for in

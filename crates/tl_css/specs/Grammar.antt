@@ -10,6 +10,7 @@ use Rattle.tl_css.specs.declared.text.role.Role.TheVariants.{Top, Is as IsRole, 
 use Rattle.tl_css.specs.declared.text.role.Combinator.{Combinator}
 use Rattle.tl_css.specs.declared.text.role.Combinator.TheVariants.{Descendant}
 use Rattle.tl_css.specs.Selector.{Css, Not, Both, Either, At, Nth}
+use Rattle.tl_css.specs.Lexical.{past_comments}
 use Rattle.tl_css.specs.SimpleGrammar.{GapStands, SimpleStands, ListBegins}
 use Rattle.tl_css.specs.Item.{combinator_of, is_relative}
 use Rattle.tl_css.specs.Reading.{link_of, reach_of}
@@ -49,8 +50,9 @@ pub data Sort : Type 0 where
 pub data Stands : Sort → List ℕ → Css → List ℕ → Type 0 where
   whole : {first : Bool} {s rest : List ℕ} {e : Css} → SimpleStands first s e rest
       → Stands (Part first) s e rest
-  list : {first w : Bool} {s m k rest : List ℕ} {role : Role} {e : Css} → ListBegins s role m
-      → Stands (Complexes (is_relative role)) m e k → GapStands k w (byte ")" ∷ rest)
+  list : {first w : Bool} {s m k rest : List ℕ} {role : Role} {e : Css}
+      → ListBegins (past_comments s) role m → Stands (Complexes (is_relative role)) m e k
+      → GapStands k w (byte ")" ∷ rest)
       → Stands (Part first) (byte ":" ∷ s) (role_of role e) rest
   compound_first : {s rest : List ℕ} {e : Css} → Stands (Part true) s e rest
       → Stands Compound s e rest

@@ -14,7 +14,7 @@ use Rattle.tl_css.specs.declared.text.role.Before.{Before}
 use Rattle.tl_css.specs.declared.text.role.Before.TheVariants.{Touching, After, Begin}
 use Rattle.tl_css.specs.Selector.{ident_of, Test, Any, Name, Id, Class, Is}
 use Rattle.tl_css.specs.Read.{Read, wrong, wrong_at, ◌>>=◌, after_byte}
-use Rattle.tl_css.specs.Lexical.{run_at, begins_name, name_at, gap_at, ident_run}
+use Rattle.tl_css.specs.Lexical.{run_at, begins_name, name_at, gap_at, ident_run, past_comments}
 use Rattle.tl_css.specs.Attribute.{attribute_at}
 use Rattle.tl_css.specs.PseudoClass.{Simple, Whole, nowhere, outermost, pseudo_at}
 
@@ -28,11 +28,12 @@ unexpected b =
 abbrev pub simple_at : List ℕ → Read Simple
 simple_at [] = wrong [] NoSelector
 simple_at (b ∷ s) =
-    if b == byte ":" then pseudo_at (b ∷ s) s
+    if b == byte ":" then pseudo_at (b ∷ s) (past_comments s)
     else (if b == byte "[" then (attribute_at (length (b ∷ s)) s >>= λ test.
     Ok (Whole (Is test.0), test.1))
     else (if b == byte "#" then (name_at s >>= λ id. Ok (Whole (Is (Id id.0)), id.1))
-    else (if b == byte "." then (name_at s >>= λ class. Ok (Whole (Is (Class class.0)), class.1))
+    else (if b == byte "." then (name_at (past_comments s) >>= λ class.
+    Ok (Whole (Is (Class class.0)), class.1))
     else (if b == byte "&" then Ok (Whole (outermost Scope), s)
     else wrong (b ∷ s) (unexpected b)))))
 
@@ -45,15 +46,15 @@ type_at (b ∷ s) = if b == byte "*" then Ok (Any, s)
 -- after a `*`: a `|` makes it any namespace, in which a type stands
 abbrev pub star_by : List ℕ → Option (List ℕ) → Read Simple
 star_by s None = Ok (Whole (Is Any), s)
-star_by s (Some rest) = type_at rest >>= λ test. Ok (Whole (Is test.0), test.1)
+star_by s (Some rest) = type_at (past_comments rest) >>= λ test. Ok (Whole (Is test.0), test.1)
 
 -- a simple selector that may stand first: a type selector too. A `|` at its front asks for no
 -- namespace
 abbrev pub first_at : List ℕ → Read Simple
 first_at [] = wrong [] NoSelector
 first_at (b ∷ s) =
-    if b == byte "*" then star_by s (after_byte (byte "|") s)
-    else (if b == byte "|" then (type_at s >>= λ test. Ok (Whole nowhere, test.1))
+    if b == byte "*" then star_by s (after_byte (byte "|") (past_comments s))
+    else (if b == byte "|" then (type_at (past_comments s) >>= λ test. Ok (Whole nowhere, test.1))
     else (if begins_name (b ∷ s) then Ok
     (Whole (Is (Name (ident_run (b ∷ s)))), (run_at None (b ∷ s)).1)
     else simple_at (b ∷ s)))

@@ -97,11 +97,19 @@ begins_comment (b ∷ c ∷ s) = (b == byte "/") && (c == byte "*")
 abbrev pub after_comment : List ℕ → Option (List ℕ)
 after_comment s = if begins_comment s then after_needle (codes "*/") (drop 2 s) else None
 
+-- a comment, which is no white space
+abbrev pub comment_at : List ℕ → Option (Bool × List ℕ)
+comment_at s = option_map (λ rest. (false, rest)) (after_comment s)
+
+-- what stands after the comments at the front: there may be some between the parts of a simple
+-- selector, and no white space
+unfoldable pub past_comments : List ℕ → List ℕ
+past_comments s = (read_many comment_at (length s) s).1
+
 -- a byte of white space, which is `true`, or a comment
 abbrev pub gap_part_at : List ℕ → Option (Bool × List ℕ)
 gap_part_at [] = None
-gap_part_at (b ∷ s) = if is_white b then Some (true, s)
-    else option_map (λ rest. (false, rest)) (after_comment (b ∷ s))
+gap_part_at (b ∷ s) = if is_white b then Some (true, s) else comment_at (b ∷ s)
 
 abbrev pub gap_result : Bool → List ℕ → Read Bool
 gap_result white rest = if begins_comment rest then wrong rest Unclosed else Ok (white, rest)

@@ -18,7 +18,7 @@ use Rattle.tl_css.specs.declared.text.role.Role.{Role}
 use Rattle.tl_css.specs.declared.text.role.Role.TheVariants.{NthOf}
 use Rattle.tl_css.specs.declared.text.role.PseudoClass.TheVariants as p
 use Rattle.tl_css.specs.Selector.{ident_of, Test, Any, Name, Id, Class, Key, Value, Empty, Css, Is, Nth}
-use Rattle.tl_css.specs.Lexical.{run_at, begins, begins_name, name_at, gap_at}
+use Rattle.tl_css.specs.Lexical.{run_at, begins, begins_name, name_at, gap_at, past_comments}
 use Rattle.tl_css.specs.Attribute.{op_at}
 use Rattle.tl_css.specs.Formula.{formula_at}
 use Rattle.tl_css.specs.PseudoClass.{edge, nowhere, only, outermost, pseudo_class, begins_argument}
@@ -51,10 +51,10 @@ pub data FlagStands : List ℕ → Case → List ℕ → Type 0 where
 -- a key: a name in no namespace, with `|` before it or without, or with `*|` in any
 pub data KeyStands : List ℕ → Space → List ℕ → List ℕ → Type 0 where
   plain_key : {s key rest : List ℕ} → NameStands s key rest → KeyStands s Bare key rest
-  bare_space : {s key rest : List ℕ} → NameStands s key rest
+  bare_space : {s key rest : List ℕ} → NameStands (past_comments s) key rest
       → KeyStands (byte "|" ∷ s) Bare key rest
-  every_space : {s key rest : List ℕ} → NameStands s key rest
-      → KeyStands (byte "*" ∷ byte "|" ∷ s) Every key rest
+  every_space : {s a key rest : List ℕ} → past_comments s ≡ byte "|" ∷ a
+      → NameStands (past_comments a) key rest → KeyStands (byte "*" ∷ s) Every key rest
 
 -- an attribute selector, after its `[`
 pub data AttributeStands : List ℕ → Test → List ℕ → Type 0 where
@@ -107,22 +107,25 @@ abbrev pub begins_bar : List ℕ → Bool
 begins_bar s = begins (λ b. b == byte "|") s
 
 -- a simple selector that has no list; `true`: one that a compound may begin with, a type too. A `*`
--- before a `|` is any namespace; before it nothing stands for none, which holds nowhere
+-- before a `|` is any namespace; before it nothing stands for none, which holds nowhere. After each
+-- mark but `#` comments may stand, as CSS Syntax drops them: `#` and its name are one token there
 pub data SimpleStands : Bool → List ℕ → Css → List ℕ → Type 0 where
-  any : {s : List ℕ} → begins_bar s ≡ false → SimpleStands true (byte "*" ∷ s) (Is Any) s
+  any : {s : List ℕ} → begins_bar (past_comments s) ≡ false
+      → SimpleStands true (byte "*" ∷ s) (Is Any) s
   type : {s name rest : List ℕ} → NameStands s name rest
       → SimpleStands true s (Is (Name (ident_of name))) rest
-  every_type : {s rest : List ℕ} {test : Test} → TypeStands s test rest
-      → SimpleStands true (byte "*" ∷ byte "|" ∷ s) (Is test) rest
-  bare_type : {s rest : List ℕ} {test : Test} → TypeStands s test rest
+  every_type : {s a rest : List ℕ} {test : Test} → past_comments s ≡ byte "|" ∷ a
+      → TypeStands (past_comments a) test rest
+      → SimpleStands true (byte "*" ∷ s) (Is test) rest
+  bare_type : {s rest : List ℕ} {test : Test} → TypeStands (past_comments s) test rest
       → SimpleStands true (byte "|" ∷ s) nowhere rest
   nesting : {first : Bool} {s : List ℕ}
       → SimpleStands first (byte "&" ∷ s) (outermost Scope) s
   id : {first : Bool} {s name rest : List ℕ} → NameStands s name rest
       → SimpleStands first (byte "#" ∷ s) (Is (Id name)) rest
-  class : {first : Bool} {s name rest : List ℕ} → NameStands s name rest
+  class : {first : Bool} {s name rest : List ℕ} → NameStands (past_comments s) name rest
       → SimpleStands first (byte "." ∷ s) (Is (Class name)) rest
   attribute : {first : Bool} {s rest : List ℕ} {test : Test} → AttributeStands s test rest
       → SimpleStands first (byte "[" ∷ s) (Is test) rest
-  pseudo : {first : Bool} {s rest : List ℕ} {e : Css} → PseudoStands s e rest
+  pseudo : {first : Bool} {s rest : List ℕ} {e : Css} → PseudoStands (past_comments s) e rest
       → SimpleStands first (byte ":" ∷ s) e rest

@@ -9,7 +9,7 @@ ghost use Rattle.tl_css.specs.declared.selector.Op.TheVariants.{Equals};
 ghost use Rattle.tl_css.specs.declared.selector.Space.TheVariants.{Bare, Every};
 
 /// A combinator at the front leads from the scope.
-#[tactic(auto, unfolding(crate::specs::Reading::read, crate::specs::Relative::read_by, crate::specs::Lexical::run_at, crate::specs::Lexical::gap_at))]
+#[tactic(auto, unfolding(crate::specs::Reading::read, crate::specs::Relative::read_by, crate::specs::Lexical::run_at, crate::specs::Lexical::gap_at, crate::specs::Lexical::past_comments))]
 pub fn combinators_lead_from_the_scope()
     ensures child { relative "> a" ≡ plain ":scope > a" }
     ensures next { relative "+a b" ≡ plain ":scope + a b" }
@@ -22,7 +22,7 @@ pub fn combinators_lead_from_the_scope()
 {}
 
 /// What is wrong stays wrong.
-#[tactic(auto, unfolding(crate::specs::Reading::read, crate::specs::Relative::read_by, crate::specs::Lexical::run_at, crate::specs::Lexical::gap_at))]
+#[tactic(auto, unfolding(crate::specs::Reading::read, crate::specs::Relative::read_by, crate::specs::Lexical::run_at, crate::specs::Lexical::gap_at, crate::specs::Lexical::past_comments))]
 pub fn nothing_else_is_led()
     ensures plain { plain "> a" ≡ wrong_from 0 NoSelector }
     ensures alone { relative ">" ≡ wrong_from 1 NoSelector }
@@ -32,7 +32,7 @@ pub fn nothing_else_is_led()
 {}
 
 /// A flag says how the case of a value counts.
-#[tactic(auto, unfolding(crate::specs::Reading::read, crate::specs::Lexical::run_at, crate::specs::Lexical::gap_at))]
+#[tactic(auto, unfolding(crate::specs::Reading::read, crate::specs::Lexical::run_at, crate::specs::Lexical::gap_at, crate::specs::Lexical::past_comments))]
 pub fn flags_say_how_case_counts()
     ensures unsaid { plain "[k=V]"
         ≡ Ok (Is (Value Bare (ident_of (codes "k")) Equals (codes "V") Unsaid)) }
@@ -47,7 +47,7 @@ pub fn flags_say_how_case_counts()
 
 /// A type stands in any namespace, with `*|` before it or without; each element is in one, so `|`
 /// is of none. A key has no namespace, but behind `*|`.
-#[tactic(auto, unfolding(crate::specs::Reading::read, crate::specs::Lexical::run_at, crate::specs::Lexical::gap_at))]
+#[tactic(auto, unfolding(crate::specs::Reading::read, crate::specs::Lexical::run_at, crate::specs::Lexical::gap_at, crate::specs::Lexical::past_comments))]
 pub fn no_prefix_stands_for_a_namespace()
     ensures every { plain "*|a" ≡ plain "a" }
     ensures any { plain "*|*.b" ≡ plain "*.b" }
@@ -61,4 +61,21 @@ pub fn no_prefix_stands_for_a_namespace()
     ensures twice { plain "*|*|a" ≡ wrong_from 3 Namespace }
     ensures spaced { plain "*| a" ≡ wrong_from 2 NoName }
     ensures column { plain "a || b" ≡ wrong_from 3 NoName }
+{}
+
+/// Comments between the parts of a simple selector say nothing, but where CSS has one token, and no
+/// white space stands there.
+#[tactic(auto, unfolding(crate::specs::Reading::read, crate::specs::Lexical::run_at, crate::specs::Lexical::gap_at, crate::specs::Lexical::past_comments))]
+pub fn comments_say_nothing()
+    ensures every { plain "*/**/|/* a */a" ≡ plain "*|a" }
+    ensures bare { plain "|/**/a" ≡ plain "|a" }
+    ensures every_key { plain "[*/**/|/**/k]" ≡ plain "[*|k]" }
+    ensures bare_key { plain "[|/**//**/k]" ≡ plain "[|k]" }
+    ensures class { plain "a./*/*/b" ≡ plain "a.b" }
+    ensures pseudo_class { plain ":/**/root" ≡ plain ":root" }
+    ensures list { plain ":/**/not(a)" ≡ plain ":not(a)" }
+    ensures id { plain "#/**/a" ≡ wrong_from 1 NoName }
+    ensures operator { plain "[k|/**/=v]" ≡ wrong_from 2 Namespace }
+    ensures white { plain "./**/ a" ≡ wrong_from 5 NoName }
+    ensures unclosed { plain "./* a" ≡ wrong_from 1 NoName }
 {}

@@ -16,11 +16,11 @@ use Rattle.tl_css.specs.declared.selector.Case.TheVariants.{Unsaid}
 use Rattle.tl_css.specs.declared.selector.Op.TheVariants.{Equals, Word, Starts, Ends, Inside}
 use Rattle.tl_css.specs.declared.selector.Space.TheVariants.{Bare}
 use Rattle.tl_css.specs.Bytes.{is_white, is_name_byte}
-use Rattle.tl_css.specs.Lexical.{begins_comment, begins_name, gap_part_at, is_plain, part_at, run_at}
+use Rattle.tl_css.specs.Lexical.{begins, begins_comment, begins_name, gap_part_at, is_plain, part_at, past_comments, run_at}
 use Rattle.tl_css.specs.Attribute.{op_at}
 use Rattle.tl_css.specs.Selector.{Is, Key, Value, ident_of}
 use Rattle.tl_css.specs.SimpleGrammar.{GapStands, NameStands, ValueStands, bare, quoted, no_flag, plain_key, AttributeStands, key, value}
-use Rattle.tl_css.proofs.Runs.{run_none, run_some, gap_from, gap_some, gap_none, gap_first}
+use Rattle.tl_css.proofs.Runs.{run_none, run_some, gap_from, gap_some, gap_none, gap_first, past_none}
 use Rattle.tl_css_laws.specs.Plain.{css_of}
 use Rattle.tl_css_laws.specs.Shared.{is_shared_byte, is_shared_name, is_lower_name, is_shared, begins_shared_value, has_shared_values}
 
@@ -97,6 +97,21 @@ name_byte_solid : (b : ℕ) → is_name_byte b ≡ true → (is_white b ≡ fals
 name_byte_solid b h =
     let not_byte : (c : ℕ) → is_name_byte c ≡ false → (b == c) ≡ false = λ c n. not_this is_name_byte b c h n in
     (rw (not_byte 0x20 refl, not_byte 0x09 refl, not_byte 0x0A refl, not_byte 0x0D refl, not_byte 0x0C refl) refl, not_byte 47 refl)
+
+-- no comment begins here
+abbrev pub NoSlash : List ℕ → Type 0
+NoSlash s = begins (λ b. b == 47) s ≡ false
+
+pub past_stays : (s : List ℕ) → NoSlash s → past_comments s ≡ s
+past_stays [] h = past_none [] refl
+past_stays (b ∷ s) h = past_none (b ∷ s) (sym (if_no _ _ _ (no_comment b s h)))
+
+past_name : (name rest : List ℕ) → is_shared_name name ≡ true → past_comments (name ++ rest) ≡ name ++ rest
+past_name [] rest h = absurd (false≢true h)
+past_name (b ∷ name) rest h = past_stays (b ∷ (name ++ rest)) (name_byte_solid b (css_bytes (b ∷ name) h).0).1
+
+pub past_name_stands : (name rest : List ℕ) → is_shared_name name ≡ true → NoMore None rest → NameStands (past_comments (name ++ rest)) name rest
+past_name_stands name rest h e = subst (λ (s : List ℕ). NameStands s name rest) (sym (past_name name rest h)) (name_stands name rest h e)
 
 pub name_solid : (name rest : List ℕ) → is_shared_name name ≡ true → Solid (name ++ rest)
 name_solid [] rest h = absurd (false≢true h)

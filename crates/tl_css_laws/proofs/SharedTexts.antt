@@ -17,32 +17,34 @@ use Rattle.tl_spec.proofs.Print.Lossy.{lossy-ident, lossy-IsUtf8}
 use Rattle.tl_spec.proofs.Select.Text.{text-only}
 use Rattle.tl_css.specs.declared.selector.Space.TheVariants.{Bare}
 use Rattle.tl_css.specs.Selector.{Css, Is, Any, Key, ident_of}
+use Rattle.tl_css.specs.Lexical.{past_comments}
 use Rattle.tl_css.specs.SimpleGrammar.{GapStands, NameStands, AttributeStands, begins_bar, SimpleStands, any, type, id, class, attribute}
 use Rattle.tl_css.specs.Grammar.{marked, spaced, IsSelector}
 use Rattle.tl_css.specs.Reading.{css_at}
 use Rattle.tl_css_laws.specs.Plain.{IsLower, IsPlain, css_of}
 use Rattle.tl_css_laws.specs.Shared.{is_shared_name, is_lower_name, is_type, is_shared, has_shared_values, is_shared_text}
 use Rattle.tl_css_laws.proofs.FlatSelectors.{Flat, Flats, flat_first, flat_next, flat_joined, flats_first, flats_next, flats_stand, flats_are_read}
-use Rattle.tl_css_laws.proofs.SharedRuns.{NoMore, Solid, name_stands, lower_is_name, gap_stands, white_stands, spaces_stand, name_solid, values_after, value_stands, value_rest, op_stands, op_value, op_key, key_stands, test_stands}
+use Rattle.tl_css_laws.proofs.SharedRuns.{NoMore, NoSlash, Solid, past_stays, past_name_stands, name_stands, lower_is_name, gap_stands, white_stands, spaces_stand, name_solid, values_after, value_stands, value_rest, op_stands, op_value, op_key, key_stands, test_stands}
 
 abbrev HasShared : List ℕ → Type 0
 HasShared s = has_shared_values s ≡ true
 
--- no name goes on here, and no `|` stands here
+-- no name goes on here, and no `|` and no comment stands here
 abbrev Ends : List ℕ → Type 0
-Ends s = NoMore None s × (begins_bar s ≡ false)
+Ends s = NoMore None s × (begins_bar s ≡ false) × NoSlash s
 
 ends_after : {spaces : List ℕ} (s : List ℕ) → port.AreSpaces spaces → Ends s → Ends (spaces ++ s)
 ends_after s port.no_space e = e
-ends_after s (port.one_space k) e = (refl, refl)
+ends_after s (port.one_space k) e = (refl, refl, refl)
 
 -- Simple selectors
 
 simple_stands : (first : Bool) {s rest : List ℕ} {e : Selector} → port.SimpleStands s e rest → (is_type e ≡ true → first ≡ true) → is_shared e ≡ true → HasShared s → Ends rest
     → SimpleStands first s (css_of e) rest
 simple_stands first (port.id_part {s = s} {i = i} {rest = rest} r) t sh v e = id (subst (λ (s : List ℕ). NameStands s i rest) (sym r.parts) (name_stands i rest sh e.0))
-simple_stands first (port.class_part {s = s} {i = i} {rest = rest} r) t sh v e = class (subst (λ (s : List ℕ). NameStands s i rest) (sym r.parts) (name_stands i rest sh e.0))
-simple_stands first (port.all_part {rest = rest}) t sh v e = subst (λ (first : Bool). SimpleStands first (42 ∷ rest) (Is Any) rest) (sym (t refl)) (any e.1)
+simple_stands first (port.class_part {s = s} {i = i} {rest = rest} r) t sh v e = class (subst (λ (s : List ℕ). NameStands (past_comments s) i rest) (sym r.parts) (past_name_stands i rest sh e.0))
+simple_stands first (port.all_part {rest = rest}) t sh v e = subst (λ (first : Bool). SimpleStands first (42 ∷ rest) (Is Any) rest) (sym (t refl))
+    (any (ap (λ (s : List ℕ). begins_bar s) (past_stays rest e.2) ∙ e.1))
 simple_stands first (port.tag_part {s = s} {i = i} {rest = rest} n r) t sh v e =
     subst (λ (first : Bool). SimpleStands first s (css_of (Tag i)) rest) (sym (t refl))
     (subst (λ (s : List ℕ). SimpleStands true s (css_of (Tag i)) rest) (sym r.parts) (type (name_stands i rest (lower_is_name i sh) e.0)))
@@ -66,12 +68,12 @@ simple_solid (port.key_part r) sh = (refl, refl)
 simple_solid (port.value_part r g w) sh = (refl, refl)
 
 other_ends : {s rest : List ℕ} {e : Selector} → port.SimpleStands s e rest → is_type e ≡ false → Ends s
-other_ends (port.id_part r) t = (refl, refl)
-other_ends (port.class_part r) t = (refl, refl)
+other_ends (port.id_part r) t = (refl, refl, refl)
+other_ends (port.class_part r) t = (refl, refl, refl)
 other_ends port.all_part t = absurd (true≢false t)
 other_ends (port.tag_part n r) t = absurd (true≢false t)
-other_ends (port.key_part r) t = (refl, refl)
-other_ends (port.value_part r g w) t = (refl, refl)
+other_ends (port.key_part r) t = (refl, refl, refl)
+other_ends (port.value_part r g w) t = (refl, refl, refl)
 
 -- the values of what stands after are shared too
 
@@ -123,11 +125,11 @@ chain_stands gap (port.next_part {m = m} {a = a} {b = b} c port.touching h) sh v
     (simple_stands false h (λ t. absurd (true≢false (sym t ∙ is.2))) is.1 (chain_rest c v) e)
 chain_stands gap (port.next_part {n = n} {a = a} {b = b} c (port.spaced {spaces = spaces} k) h) sh v e =
     let is = both_shared a b sh in
-    flat_joined (chain_stands gap c is.0 v (refl, refl)) (spaced (white_stands n k (simple_solid h is.1)))
+    flat_joined (chain_stands gap c is.0 v (refl, refl, refl)) (spaced (white_stands n k (simple_solid h is.1)))
     (simple_stands true h (λ _. refl) is.1 (joint_rest (port.spaced k) (chain_rest c v)) e)
 chain_stands gap (port.next_part {n = n} {a = a} {b = b} c (port.stepped {before = before} {after = after} k l) h) sh v e =
     let is = both_shared a b sh in
-    flat_joined (chain_stands gap c is.0 v (ends_after (62 ∷ (after ++ n)) k (refl, refl)))
+    flat_joined (chain_stands gap c is.0 v (ends_after (62 ∷ (after ++ n)) k (refl, refl, refl)))
     (marked (spaces_stand (62 ∷ (after ++ n)) k (refl, refl)).1 refl (spaces_stand n l (simple_solid h is.1)).1)
     (simple_stands true h (λ _. refl) is.1 (joint_rest (port.stepped k l) (chain_rest c v)) e)
 
@@ -160,20 +162,20 @@ list_stands (port.first_chain c) sh v e solid =
     (one.0, one.1, flats_first one.2, one.3)
 list_stands (port.next_chain {m = m} {a = a} {b = b} cs c) sh v e solid =
     let is = both_shared a b sh in
-    let one = list_stands cs is.0 v (refl, refl) (refl, refl) in
+    let one = list_stands cs is.0 v (refl, refl, refl) (refl, refl) in
     let two = complex_stands c is.1 (values_after (44 ∷ []) m (list_rest cs v)) e solid in
     (two.0, two.1, flats_next one.2 one.3 two.2, two.3)
 
 pub text_stands : (text : List ℕ) (e : Selector) → port.IsSelectorText text e → is_shared e ≡ true → HasShared text → IsSelector text (css_of e)
 unfolding Before
 text_stands text e h sh v =
-    let is = list_stands h sh v (refl, refl) tt in
+    let is = list_stands h sh v (refl, refl, refl) tt in
     record { rest = is.0; white = is.1; list = flats_stand is.2; end = is.3 }
 
 pub text_is_read : (text : List ℕ) (e : Selector) → port.IsSelectorText text e → is_shared e ≡ true → HasShared text → css_at text ≡ Ok (css_of e)
 unfolding Before
 text_is_read text e h sh v =
-    let is = list_stands h sh v (refl, refl) tt in
+    let is = list_stands h sh v (refl, refl, refl) tt in
     flats_are_read text is.0 (css_of e) is.1 is.2 is.3
 
 -- Such a selector is plain

@@ -85,7 +85,7 @@ pub fn no_selectors_of_the_crate()
 {}
 
 /// What both read of texts that they don't read alike.
-#[tactic(auto, unfolding(tl_spec::specs::Select::Reading::parts_at, tl_css::specs::Reading::read, tl_css::specs::Lexical::run_at, tl_css::specs::Lexical::gap_at))]
+#[tactic(auto, unfolding(tl_spec::specs::Select::Reading::parts_at, tl_css::specs::Reading::read, tl_css::specs::Lexical::run_at, tl_css::specs::Lexical::gap_at, tl_css::specs::Lexical::past_comments))]
 pub fn texts_read_otherwise()
     ensures name { selector_at (codes "a+b") ≡ Some (Tag (codes "a+b")) }
     ensures siblings { css_at (codes "a+b")

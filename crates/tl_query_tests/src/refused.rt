@@ -26,7 +26,7 @@ static REFUSED: [(&str, usize, Cause); 102] = [
     ("a.", 2, Cause::NoName),
     (". a", 1, Cause::NoName),
     (":", 1, Cause::NoName),
-    (":/**/root", 1, Cause::NoName),
+    ("./**/ a", 5, Cause::NoName),
     ("a: root", 2, Cause::NoName),
     ("[", 1, Cause::NoName),
     ("[]", 1, Cause::NoName),

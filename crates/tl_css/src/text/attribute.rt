@@ -8,7 +8,7 @@ ghost use Rattle.tl_css.specs.SimpleView.{run_text, test_text};
 
 use crate::error::{Cause, Wrong};
 use crate::selector::{Case, Op, Space};
-use crate::text::gap::{gap, wrong};
+use crate::text::gap::{gap, past_comments, wrong};
 use crate::text::run::{begins_name, is_word, name, past_run};
 
 /// A name or a string that is not decoded yet: its quotes, and what begins with it.
@@ -44,9 +44,9 @@ fn space(s: &[u8]) -> (Space, &[u8])
     ensures { (result.0, result.1.now) ≡ space_at s.now }
 {
     match s {
-        [b'|', rest @ ..] => (Space::Bare, rest),
-        [b'*', rest @ ..] => match after_byte(b'|', rest) {
-            Some(rest) => (Space::Every, rest),
+        [b'|', rest @ ..] => (Space::Bare, past_comments(rest)),
+        [b'*', rest @ ..] => match after_byte(b'|', past_comments(rest)) {
+            Some(rest) => (Space::Every, past_comments(rest)),
             None => (Space::Bare, s),
         },
         _ => (Space::Bare, s),

@@ -1,6 +1,6 @@
 //! White space and comments.
 ghost use Rattle.std.specs.Prelude.{◌≡◌, length, option_map, codes};
-ghost use Rattle.tl_css.specs.Lexical.{after_comment, begins_comment, gap_at, gap_part_at};
+ghost use Rattle.tl_css.specs.Lexical.{after_comment, begins_comment, gap_at, gap_part_at, past_comments};
 ghost use Rattle.tl_css.specs.TextView.{read_as};
 ghost use Rattle.tl_spec.specs.Lex.Runs.{after_needle};
 
@@ -44,6 +44,17 @@ fn after_comment(s: &[u8]) -> Option<&[u8]>
         [b'/', b'*', rest @ ..] => after_end(rest),
         _ => None,
     }
+}
+
+/// What stands after the comments at the front.
+pub fn past_comments(s: &[u8]) -> &[u8]
+    ensures { result.now ≡ past_comments s.now }
+{
+    let mut left = s;
+    'comments: while let Some(rest) = after_comment(left) {
+        left = rest;
+    }
+    left
 }
 
 // A byte of white space, which is `true`, or a comment.

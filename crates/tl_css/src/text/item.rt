@@ -3,6 +3,7 @@ ghost use Rattle.std.specs.Prelude.{◌≡◌};
 ghost use Rattle.std.specs.Str.{byte};
 ghost use Rattle.tl_css.specs.Item.{begin_at, combinator_at, combinator_of, first_at, leading_at, next_at, next_by, part_at, simple_at, star_by, type_at, unexpected};
 ghost use Rattle.tl_css.specs.ItemView.{item};
+ghost use Rattle.tl_css.specs.Lexical.{past_comments};
 ghost use Rattle.tl_css.specs.Relative.{begins_combinator, led_at};
 ghost use Rattle.tl_css.specs.Read.{after_byte};
 ghost use Rattle.tl_css.specs.SimpleView.{simple, test_text};
@@ -11,7 +12,7 @@ ghost use Rattle.tl_css.specs.TextView.{read_as};
 use crate::error::{Cause, Wrong};
 use crate::selector::Anchor;
 use crate::text::attribute::{TestText, after_byte, attribute};
-use crate::text::gap::{gap, wrong};
+use crate::text::gap::{gap, past_comments, wrong};
 use crate::text::pseudo_class::{Simple, Whole, pseudo};
 use crate::text::role::{Before, Combinator, Role};
 use crate::text::run::{begins_name, name, past_run};
@@ -44,7 +45,7 @@ fn simple_after(s: &[u8]) -> Result<(Simple<'_>, &[u8]), Wrong>
         return wrong(s, Cause::NoSelector);
     };
     if *first == b':' {
-        return pseudo(s, rest);
+        return pseudo(s, past_comments(rest));
     }
     if *first == b'[' {
         let (test, rest) = attribute(s.len(), rest)?;
@@ -55,7 +56,7 @@ fn simple_after(s: &[u8]) -> Result<(Simple<'_>, &[u8]), Wrong>
         return Ok((Simple::Whole(Whole::Test(TestText::Id(id))), rest));
     }
     if *first == b'.' {
-        let (class, rest) = name(rest)?;
+        let (class, rest) = name(past_comments(rest))?;
         return Ok((Simple::Whole(Whole::Test(TestText::Class(class))), rest));
     }
     if *first == b'&' {
@@ -77,12 +78,13 @@ fn local_type(s: &[u8]) -> Result<(TestText<'_>, &[u8]), Wrong>
 
 // What begins with a `*`, from after that on.
 fn after_star(s: &[u8]) -> Result<(Simple<'_>, &[u8]), Wrong>
-    ensures { read_as simple result ≡ star_by s.now (after_byte (byte "|") s.now) }
+    ensures { read_as simple result
+        ≡ star_by s.now (after_byte (byte "|") (past_comments s.now)) }
 {
-    let Some(rest) = after_byte(b'|', s) else {
+    let Some(rest) = after_byte(b'|', past_comments(s)) else {
         return Ok((Simple::Whole(Whole::Test(TestText::Any)), s));
     };
-    let (test, rest) = local_type(rest)?;
+    let (test, rest) = local_type(past_comments(rest))?;
     Ok((Simple::Whole(Whole::Test(test)), rest))
 }
 
@@ -93,7 +95,7 @@ fn simple_first(s: &[u8]) -> Result<(Simple<'_>, &[u8]), Wrong>
     match s {
         [b'*', rest @ ..] => after_star(rest),
         [b'|', rest @ ..] => {
-            let (_test, rest) = local_type(rest)?;
+            let (_test, rest) = local_type(past_comments(rest))?;
             Ok((Simple::Whole(Whole::Nowhere), rest))
         }
         _ if begins_name(s) => Ok((
