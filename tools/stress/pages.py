@@ -175,6 +175,7 @@ def walks():
     yield "tags in one another", frame("", "<b>", LINK)
     yield "tags in one another that no policy lists", frame("", "<q0>", LINK)
     yield "a tag with many children", frame("<b>", "<u></u>", LINK)
+    yield "a tag with many attributes", number_between("<p ", "a% ", ">" + LINK)
     paragraph = "<p>x y <b class=k>z</b><br><a href='/q'>w</a></p>\n"
     yield "a page of paragraphs", frame("", paragraph, LINK)
 

@@ -21,7 +21,7 @@
 //! | `filled`, `once` | that the tables where the selector holds are written in columns, by commas: a cell in each of its slots, or where it begins |
 //! | `below NUMBER`, `behind NUMBER`, `closest NUMBER` | before `select`: that they are asked for below the element of this number or behind it, or that the innermost one from it outwards is |
 //! | `relative` | before `select`: that its selectors are relative |
-//! | `time` | that one page is on standard input, which is read alone: what is written is how many nodes it has, or `refused`, and how long the reading and the drop took, in microseconds; with `print`, `pretty`, `text`, `json` or another before it how many bytes that has of the document, and how long it took to write |
+//! | `time` | that one page is on standard input, which is read alone: what is written is how many nodes it has, or `refused`, and how long the reading and the drop took, in microseconds; with `print`, `pretty`, `text`, `json` or another before it how many bytes that has of the document, and how long it took to write; with `select` alone how long the search took |
 //! | `again` | with `time`: that the page is read and dropped once before, so that the second reading can be counted alone |
 //!
 //! The status is 1 where a word or the selector is not understood, 3 where memory runs out, and 4 where reading or
@@ -114,9 +114,7 @@ fn run(rt: &HostRuntime) -> Result<(), Failed> {
     let asked = asked(rt)?;
     let mut pages = Vec::new(rt.alloc());
     rt.stdin().read_to_end(&mut pages)?;
-    if asked.is_timed
-        && (asked.is_printed || asked.is_pretty || asked.is_text || asked.answer.is_some())
-    {
+    if asked.is_timed && is_written(&asked) {
         return time_written(rt, pages.as_slice(), &asked);
     }
     if asked.is_timed {
@@ -127,6 +125,15 @@ fn run(rt: &HostRuntime) -> Result<(), Failed> {
     out.write_all(trees.as_slice())?;
     out.flush()?;
     Ok(())
+}
+
+// Whether something is asked of a page that is read.
+fn is_written(asked: &Asked) -> bool {
+    asked.is_printed
+        || asked.is_pretty
+        || asked.is_text
+        || asked.answer.is_some()
+        || asked.selector.is_some()
 }
 
 fn asked(rt: &HostRuntime) -> Result<Asked, Failed> {
@@ -267,12 +274,28 @@ fn put_timed(
     tree: &Tree<'_>,
     asked: &Asked,
 ) -> Result<(), NoRoom> {
-    match asked.answer {
-        Some(answer) => put_answer(alloc, out, tree, answer, asked.selector.as_ref()),
+    if let Some(answer) = asked.answer {
+        return put_answer(alloc, out, tree, answer, asked.selector.as_ref());
+    }
+    match &asked.selector {
+        Some(selector) => put_count(alloc, out, tree, selector),
         None if asked.is_text => Ok(write_readable_document(tree, &[], out)?),
         None if asked.is_pretty => Ok(write_pretty(tree, asked.flags.is_scripting, out)?),
         None => Ok(write_document(tree, asked.flags.is_scripting, out)?),
     }
+}
+
+// Writes how many nodes a selector finds.
+fn put_count(
+    alloc: Global,
+    out: &mut Vec<u8>,
+    tree: &Tree<'_>,
+    selector: &Selector,
+) -> Result<(), NoRoom> {
+    let found = tl_tree_select::select(alloc, tree, selector)?;
+    let line = format!(in alloc; "{}", found.len())?;
+    out.extend_from_slice(line.as_bytes())?;
+    Ok(())
 }
 
 // What is asked for of each page, with the separator after it.

@@ -95,12 +95,13 @@ fn refreshes(tree: &Tree<'_>, number: usize) -> bool
     }
 }
 
-// The `content` of another `meta` holds no URL.
-fn kind_if(refreshes: bool, kind: Option<UrlKind>) -> Option<UrlKind>
-    ensures { result ≡ kind_if refreshes kind }
+// The `content` of another `meta` holds no URL. For no other attribute the element is asked, so an
+// element of many takes no longer.
+fn kind_if(tree: &Tree<'_>, number: usize, kind: Option<UrlKind>) -> Option<UrlKind>
+    ensures { result ≡ kind_if (refreshes (attributes_at (rows_in tree.now) number)) kind }
 {
     match kind {
-        Some(UrlKind::Refresh) if !refreshes => None,
+        Some(UrlKind::Refresh) => refreshes(tree, number).then_some(UrlKind::Refresh),
         _ => kind,
     }
 }
@@ -113,7 +114,7 @@ fn kind_of(tree: &Tree<'_>, number: usize, attribute: Attribute<'_>) -> Option<U
     let name = tree.name(number)?;
     match (tree.namespace(number)?, attribute.space) {
         (Namespace::Html, AttributeSpace::Plain) => {
-            kind_if(refreshes(tree, number), kind_at(attribute.key, name))
+            kind_if(tree, number, kind_at(attribute.key, name))
         }
         (Namespace::Svg, AttributeSpace::Plain | AttributeSpace::Xlink)
             if attribute.key == b"href".as_slice() => { Some(UrlKind::Whole) }
