@@ -54,7 +54,7 @@ PIECES = [
     "<?x", "<![CDATA[", "]]>", "<!DOCTYPE html>", "javascript:steal()", "JAVASCRIPT:steal()", "java\tscript:steal()", "&#106;avascript:steal()",
     "&#x6A;avascript&colon;steal()", "java&Tab;script:steal()", "java&NewLine;script:steal()", "\x01javascript:steal()", "data:text/html,x",
     "https://e/", "//e/", "/x", "#x", "&lt;", "&gt;", "&quot;", "&amp;", "&#0;", "&lt;img src=x onerror=steal()&gt;", " onerror=steal() ",
-    " onclick=\"steal()\"", " href=javascript:steal()", " style=x", " rel=x", " id=body", " class=user-x", " id=\"user-y\"", " title=z", " src=/y",
+    " onclick=\"steal()\"", " href=javascript:steal()", " style=x", " rel=x", " id=body", " class=user-x", " class='language-c++ x\tlanguage-'", " class=\"hljs\0 xlanguage-a\"", " id=\"user-y\"", " title=z", " src=/y",
     "x", "text", "é", "東", "\u2028", "</p title=\">", "<p<img>", "< img src=x onerror=steal()>", "<li>", "<ul>", "</ul>", "<h1>", "</h1>",
 ]
 
@@ -200,7 +200,7 @@ def main(parser, words):
     else:
         chance = random.Random(given.seed)
         pages = written_pages() + [made_up(chance) for _ in range(given.runs)]
-        wrong = sum(look_at_pages(given.program, browser, pages, words) for words in ([], ["--nofollow-links"]))
+        wrong = sum(look_at_pages(given.program, browser, pages, words) for words in ([], ["--nofollow-links"], ["--classes", "+hljs,*"]))
     print(f"browser: {wrong} pages wrong" if wrong else "browser: nothing wrong")
     return 1 if wrong else 0
 

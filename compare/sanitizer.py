@@ -21,7 +21,7 @@ class Policy:
     def __init__(self, lines):
         words = {option: said.split(",") for option, _, said in (line.partition(" ") for line in lines)}
         self.tags, self.keys, self.link_keys = words["--tags"], words["--keys"], words["--link-keys"]
-        self.links, self.prefix = words["--links"], words["--prefix"][0]
+        self.links, self.classes, self.prefix = words["--links"], words["--classes"], words["--prefix"][0]
         self.lets_relative = "--relative-links" in words
         self.marks_links = "--nofollow-links" in words
 
@@ -41,7 +41,12 @@ class Policy:
         if key not in self.keys or (key in self.link_keys and not (is_link and re.fullmatch(r"[^\0- \"\x7f]*", value))):
             return False
         is_name = value.startswith(self.prefix) and re.fullmatch(r"[A-Za-z0-9_.:\x80-\U0010ffff-]*", value)
-        return key not in ("id", "name", "class") or bool(is_name)
+        return (key not in ("id", "name") or bool(is_name)) and (key != "class" or value != "" and value == self.classes_of(value))
+
+    def classes_of(self, text):
+        """The words of a text that patterns match; a `*` at the end of one stands for any characters."""
+        matches = re.compile("|".join(re.escape(it[:-1]) + ".*" if it.endswith("*") else re.escape(it) for it in self.classes), re.DOTALL)
+        return " ".join(word for word in re.split("[ \t\n\f\r]+", text) if word and matches.fullmatch(word))
 
     def named(self, text):
         """A text with the prefix in front of each word that hasn't it."""
@@ -53,6 +58,8 @@ class Policy:
             link = re.sub(r"[\t\n\r]", "", value.strip("".join(map(chr, range(33)))))
             link = re.sub(r"^[A-Za-z][A-Za-z0-9+.-]*:", lambda scheme: scheme.group().lower(), link)
             return cleaned("#" + self.named(link[1:]) if link.startswith("#") else link)
+        if key == "class":
+            return self.classes_of(cleaned(value))
         return cleaned(self.named(value) if key in ("id", "name") or key in REFERRING else value)
 
     def pairs(self, node):

@@ -115,7 +115,8 @@ typedef struct {
     tl_list keys;          /* the keys of attributes that may stand */
     tl_list link_keys;     /* the keys that hold links */
     tl_list link_prefixes; /* what links begin with */
-    tl_list id_prefix;     /* what stands in front of `id` and `name` and of links to them, and what `class` begins with: one word */
+    tl_list classes;       /* the patterns of classes that may stand: a `*` at the end of one stands for any characters, as "language-*,hljs" */
+    tl_list id_prefix;     /* what stands in front of `id` and `name` and of links to them: one word */
     bool relative_links;   /* whether links beside the page may stand too, as `x.png`; also where that is the policy's own */
     bool nofollow_links;   /* whether each link is marked with rel="nofollow noopener"; `rel` is among the keys then */
     uint8_t policy;        /* TL_BLOG, TL_COMMENTS or TL_DOCUMENTS */
@@ -123,7 +124,7 @@ typedef struct {
 
 /* A list that isn't said, and lists of which none is: tl_lists lists = TL_LISTS_OF(TL_COMMENTS); */
 #define TL_OWN_LIST {(const uint8_t *)"", 0, false}
-#define TL_LISTS_OF(policy) {TL_OWN_LIST, TL_OWN_LIST, TL_OWN_LIST, TL_OWN_LIST, TL_OWN_LIST, false, false, (policy)}
+#define TL_LISTS_OF(policy) {TL_OWN_LIST, TL_OWN_LIST, TL_OWN_LIST, TL_OWN_LIST, TL_OWN_LIST, TL_OWN_LIST, false, false, (policy)}
 
 /* The list that a text of C says: lists.tags = tl_list_of("a,b,p"); */
 static inline tl_list tl_list_of(const char *words) {
@@ -151,7 +152,8 @@ enum {
     TL_NO_ROW = 14,          /* `tr` of this table is missing, so rows lose their texts */
     TL_NO_CELL = 15,         /* `td` or `th` of this table is missing, so cells lose their texts */
     TL_NO_CAPTION = 16,      /* `caption` of this table is missing, so captions lose their texts */
-    TL_NO_TABLE = 17         /* `table` is missing, in which alone this tag may stand */
+    TL_NO_TABLE = 17,        /* `table` is missing, in which alone this tag may stand */
+    TL_MALFORMED_CLASS = 18  /* a pattern of classes is a word without spaces and `"`, with a `*` at its end alone */
 };
 
 /* A reason in words. */
@@ -174,6 +176,7 @@ static inline const char *tl_reason_text(uint8_t reason) {
     case TL_NO_CELL: return "`td` or `th` of this table is missing, so cells lose their texts";
     case TL_NO_CAPTION: return "`caption` of this table is missing, so captions lose their texts";
     case TL_NO_TABLE: return "`table` is missing, in which alone this tag may stand";
+    case TL_MALFORMED_CLASS: return "no pattern of classes: it is a word without spaces and `\"`, with a `*` at its end alone";
     default: return "no reason";
     }
 }
@@ -183,8 +186,13 @@ static inline const char *tl_reason_text(uint8_t reason) {
 tl_status tl_sanitize_html_with(const tl_lists *lists, const uint8_t *page, size_t page_len,
                                 uint8_t *out, size_t room, size_t *needed, uint8_t *cause);
 
-/* The first word for which these lists are no policy: by the order of tags, keys, link prefixes and the prefix of names, and of the
- * words in each; then `rel` where links can't be marked; then `table` or a part of a table, where one lacks the other. `*cause` says
+/* The options of `tl sanitize` that say these lists, one on each line, as "--tags a,b,p": so an app can show what a policy keeps, also
+ * one that is there (TL_LISTS_OF). Whether the lists are a policy isn't looked at. A list that is no UTF-8, and another number of a
+ * policy, are not understood. */
+tl_status tl_list_options(const tl_lists *lists, uint8_t *out, size_t room, size_t *needed);
+
+/* The first word for which these lists are no policy: by the order of tags, keys, link prefixes, classes and the prefix of names,
+ * and of the words in each; then `rel` where links can't be marked; then `table` or a part of a table, where one lacks the other. `*cause` says
  * why, and in which list the word stands. Lists that are a policy have no such word: that is refused, and `*cause` is 0. */
 tl_status tl_refused_word(const tl_lists *lists, uint8_t *out, size_t room, size_t *needed, uint8_t *cause);
 

@@ -306,8 +306,8 @@ Keys, in exact case, and twice in a tag.
 
   $ printf '<img src="https://e/x" alt="y" onerror="z">' | tl sanitize
   <img src="https://e/x" alt="y"> (no-eol)
-  $ printf '<P CLASS="user-x">x</P>' | tl sanitize
-  <p class="user-x">x</p> (no-eol)
+  $ printf '<P CLASS="language-x">x</P>' | tl sanitize
+  <p class="language-x">x</p> (no-eol)
   $ printf '<img src="/x" onerror = "steal()">' | tl sanitize
   <img src="/x"> (no-eol)
   $ printf '<p onclick="steal()" title="x">y</p>' | tl sanitize
@@ -330,9 +330,7 @@ Keys, in exact case, and twice in a tag.
 Names that others can refer to.
 
   $ printf '<p id="body" class="user-x">x</p>' | tl sanitize
-  <p id="user-body" class="user-x">x</p> (no-eol)
-  $ printf '<p class="user-x admin">x</p>' | tl sanitize
-  <p>x</p> (no-eol)
+  <p id="user-body">x</p> (no-eol)
   $ printf '<h2 id=usage>x</h2><a href="#usage">y</a><a href="#user-usage">z</a>' | tl sanitize
   <h2 id="user-usage">x</h2><a href="#user-usage">y</a><a href="#user-usage">z</a> (no-eol)
   $ printf '<h2 id=über>x</h2><a href="#über">y</a><sup id=fn:1>1</sup><a href="#">2</a>' | tl sanitize
@@ -347,7 +345,32 @@ Names that others can refer to.
   <img src="/x"> (no-eol)
   $ printf '<p id>y</p>' | tl sanitize
   <p>y</p> (no-eol)
+
+Classes, by patterns of whole words.
+
   $ printf '<p class="">y</p>' | tl sanitize
+  <p>y</p> (no-eol)
+  $ printf '<p class="admin modal">x</p>' | tl sanitize
+  <p>x</p> (no-eol)
+  $ printf '<pre><code class="hljs language-c++ x">a</code></pre>' | tl sanitize
+  <pre><code class="language-c++">a</code></pre> (no-eol)
+  $ printf '<pre><code class=" hljs\n\tlanguage-c++  x ">a</code></pre>' | tl sanitize --classes +hljs
+  <pre><code class="hljs language-c++">a</code></pre> (no-eol)
+  $ printf '<pre><code class="hljs language-c++">a</code></pre>' | tl sanitize --classes +hljs
+  <pre><code class="hljs language-c++">a</code></pre> (no-eol)
+  $ printf '<p class="xlanguage-a language LANGUAGE-a language-">y</p>' | tl sanitize
+  <p class="language-">y</p> (no-eol)
+  $ printf '<p class="lang\000uage-a\033 language-&quot;&lt;">y</p>' | tl sanitize
+  <p class="language-&quot;&lt;">y</p> (no-eol)
+  $ printf '<p class="language-a&#0;&#27;&#13;b">y</p>' | tl sanitize
+  <p class="language-a�">y</p> (no-eol)
+  $ printf '<p class="a hljs">y</p>' | tl sanitize --classes hljs
+  <p class="hljs">y</p> (no-eol)
+  $ printf '<p class="a &#13; b&#9;*"><b class=" ">y</b>' | tl sanitize --classes '*'
+  <p class="a b *"><b>y</b></p> (no-eol)
+  $ printf '<p class="a">y</p>' | tl sanitize --classes ''
+  <p>y</p> (no-eol)
+  $ printf '<p class="language-a">y</p>' | tl sanitize --comments --keys class
   <p>y</p> (no-eol)
 
 Another character set, byte 0, and characters beyond ASCII.
@@ -449,8 +472,8 @@ Links that are marked.
   $ echo '--tags a,area,img,q --keys alt,cite,class,href,id,rel,src,title --nofollow-links' >marked
   $ printf '<a href="https://e/x">y</a>' | tl sanitize $(cat marked)
   <a rel="nofollow noopener" href="https://e/x">y</a> (no-eol)
-  $ printf '<a title=z href="https://e/x" class=user-y id=user-z>y</a>' | tl sanitize $(cat marked)
-  <a rel="nofollow noopener" title="z" href="https://e/x" class="user-y" id="user-z">y</a> (no-eol)
+  $ printf '<a title=z href="https://e/x" class=language-y id=user-z>y</a>' | tl sanitize $(cat marked)
+  <a rel="nofollow noopener" title="z" href="https://e/x" class="language-y" id="user-z">y</a> (no-eol)
   $ printf '<a rel="follow" href="/x">y</a>' | tl sanitize $(cat marked)
   <a rel="nofollow noopener" href="/x">y</a> (no-eol)
   $ printf '<a href="/x" rel>y</a>' | tl sanitize $(cat marked)
@@ -489,7 +512,7 @@ Comments of readers.
 
   $ printf '<h1>x</h1><p>y<img src="https://e/x"><em>z</em></p>' | tl sanitize --comments
   x<p>y<em>z</em></p> (no-eol)
-  $ printf '<a href="https://e/x" class="user-a" id="user-b">x</a>' | tl sanitize --comments
+  $ printf '<a href="https://e/x" class="language-a" id="user-b">x</a>' | tl sanitize --comments
   <a href="https://e/x">x</a> (no-eol)
   $ printf '<a href="mailto:x@e">x</a>' | tl sanitize --comments
   <a>x</a> (no-eol)
@@ -618,6 +641,12 @@ Lists with one word that is refused, before a page is looked at.
   $ tl sanitize --links java none
   tl: no policy may let links begin with `java`: it is no scheme with its `:`, and no `/`, `#`, `?` or `.` stands first (err)
   [2]
+  $ tl sanitize --classes 'a b' none
+  tl: no pattern of classes: `a b`: a pattern is a word without spaces and `"`, and a `*` stands at its end alone (err)
+  [2]
+  $ tl sanitize --classes '*,a*,a**' none
+  tl: no pattern of classes: `a**`: a pattern is a word without spaces and `"`, and a `*` stands at its end alone (err)
+  [2]
   $ tl sanitize --prefix 1 none
   tl: no prefix of names: `1`: a prefix is a letter of a-z, and then letters and `-` (err)
   [2]
@@ -653,6 +682,12 @@ Several are, and the first of them is named.
   [2]
   $ tl sanitize --keys onclick --links java none
   tl: no policy may list the key `onclick`: its value is a script (err)
+  [2]
+  $ tl sanitize --classes '*a' --links java none
+  tl: no policy may let links begin with `java`: it is no scheme with its `:`, and no `/`, `#`, `?` or `.` stands first (err)
+  [2]
+  $ tl sanitize --prefix 1 --classes '*a' none
+  tl: no pattern of classes: `*a`: a pattern is a word without spaces and `"`, and a `*` stands at its end alone (err)
   [2]
   $ tl sanitize --links java --prefix 1 none
   tl: no policy may let links begin with `java`: it is no scheme with its `:`, and no `/`, `#`, `?` or `.` stands first (err)
@@ -695,6 +730,9 @@ What is said of each reason.
   [2]
   $ tl sanitize --links http none
   tl: no policy may let links begin with `http`: it is no scheme with its `:`, and no `/`, `#`, `?` or `.` stands first (err)
+  [2]
+  $ tl sanitize --classes 'a b' none
+  tl: no pattern of classes: `a b`: a pattern is a word without spaces and `"`, and a `*` stands at its end alone (err)
   [2]
   $ tl sanitize --prefix 1 none
   tl: no prefix of names: `1`: a prefix is a letter of a-z, and then letters and `-` (err)

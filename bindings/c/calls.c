@@ -44,7 +44,7 @@ void __wrap_free(void *block) {
 }
 
 /* The room that is lent, of dots where nothing was written, and what was needed. */
-static uint8_t out[64];
+static uint8_t out[256];
 static size_t needed;
 
 #define TEXT(text) (const uint8_t *)(text), sizeof(text) - 1
@@ -131,8 +131,9 @@ static void of_lists(void) {
     PUTS("<a rel=\"nofollow noopener\" href=\"/b\">y</a>", tl_sanitize_html_with(&lists, TEXT("<A HREF=/b>y"), OUT, &cause));
     lists.tags = tl_list_of("");
     PUTS("xyzc", tl_sanitize_html_with(&lists, TEXT(written), OUT, &cause));
-    lists.keys = tl_list_of("class");
-    lists.id_prefix = tl_list_of("own-");
+    lists.keys = tl_list_of("class,id");
+    lists.classes = tl_list_of("own-*");
+    lists.id_prefix = tl_list_of("my-");
     lists.tags = tl_list_of("p");
     PUTS("<p class=\"own-a\">xy</p>zc", tl_sanitize_html_with(&lists, TEXT(written), OUT, &cause));
     LEAVES(TL_NO_ROOM, 25, tl_sanitize_html_with(&lists, TEXT(written), ROOM(24), &cause));
@@ -140,21 +141,32 @@ static void of_lists(void) {
     LEAVES(TL_NOT_UNDERSTOOD, 0, tl_sanitize_html_with(&lists, TEXT("\xff"), OUT, &cause));
     CHECK(cause == TL_NO_REASON);
 
+    static const char options[] = "--tags p\n--keys class,id,rel\n--link-keys cite,href\n--links https://,http://\n"
+                                  "--relative-links\n--nofollow-links\n--classes own-*\n--prefix my-\n";
+    PUTS(options, tl_list_options(&lists, OUT));
+    LEAVES(TL_NO_ROOM, sizeof options - 1, tl_list_options(&lists, ROOM(9)));
+    RUNS_OUT(options, tl_list_options(&lists, OUT));
+    lists.tags = tl_list_of("script");
+    lists.classes = tl_list_of("+hljs,-own-*");
+    PUTS("--tags script\n--keys class,id,rel\n--link-keys cite,href\n--links https://,http://\n"
+         "--relative-links\n--nofollow-links\n--classes hljs\n--prefix my-\n", tl_list_options(&lists, OUT));
+
     static const struct {
-        const char *tags, *keys, *link_keys, *link_prefixes, *id_prefix, *word;
+        const char *tags, *keys, *link_keys, *link_prefixes, *classes, *id_prefix, *word;
         uint8_t reason;
     } wrong[] = {
-        {"p,B", NULL, NULL, NULL, NULL, "B", TL_MALFORMED_TAG},
-        {"p,script", "onclick", NULL, NULL, NULL, "script", TL_OPAQUE_TAG},
-        {"body", NULL, NULL, NULL, NULL, "body", TL_STRUCTURAL_TAG},
-        {NULL, "a.b", NULL, NULL, NULL, "a.b", TL_MALFORMED_KEY},
-        {NULL, "onclick", NULL, NULL, NULL, "onclick", TL_SCRIPT_KEY},
-        {NULL, "style", NULL, NULL, NULL, "style", TL_ACTIVE_KEY},
-        {NULL, NULL, "cite", NULL, NULL, "href", TL_LINK_KEY},
-        {NULL, NULL, NULL, "a b", NULL, "a b", TL_MALFORMED_LINK},
-        {NULL, NULL, NULL, "javascript:", NULL, "javascript:", TL_ACTIVE_SCHEME},
-        {NULL, NULL, NULL, "www", NULL, "www", TL_NO_SCHEME},
-        {NULL, NULL, NULL, NULL, "1", "1", TL_MALFORMED_PREFIX},
+        {"p,B", NULL, NULL, NULL, NULL, NULL, "B", TL_MALFORMED_TAG},
+        {"p,script", "onclick", NULL, NULL, NULL, NULL, "script", TL_OPAQUE_TAG},
+        {"body", NULL, NULL, NULL, NULL, NULL, "body", TL_STRUCTURAL_TAG},
+        {NULL, "a.b", NULL, NULL, NULL, NULL, "a.b", TL_MALFORMED_KEY},
+        {NULL, "onclick", NULL, NULL, NULL, NULL, "onclick", TL_SCRIPT_KEY},
+        {NULL, "style", NULL, NULL, NULL, NULL, "style", TL_ACTIVE_KEY},
+        {NULL, NULL, "cite", NULL, NULL, NULL, "href", TL_LINK_KEY},
+        {NULL, NULL, NULL, "a b", NULL, NULL, "a b", TL_MALFORMED_LINK},
+        {NULL, NULL, NULL, "javascript:", NULL, NULL, "javascript:", TL_ACTIVE_SCHEME},
+        {NULL, NULL, NULL, "www", NULL, NULL, "www", TL_NO_SCHEME},
+        {NULL, NULL, NULL, NULL, "*,a*b", "1", "a*b", TL_MALFORMED_CLASS},
+        {NULL, NULL, NULL, NULL, NULL, "1", "1", TL_MALFORMED_PREFIX},
     };
     for (size_t row = 0; row < sizeof wrong / sizeof *wrong; row++) {
         tl_lists own = TL_LISTS_OF(TL_BLOG);
@@ -162,6 +174,7 @@ static void of_lists(void) {
         if (wrong[row].keys) own.keys = tl_list_of(wrong[row].keys);
         if (wrong[row].link_keys) own.link_keys = tl_list_of(wrong[row].link_keys);
         if (wrong[row].link_prefixes) own.link_prefixes = tl_list_of(wrong[row].link_prefixes);
+        if (wrong[row].classes) own.classes = tl_list_of(wrong[row].classes);
         if (wrong[row].id_prefix) own.id_prefix = tl_list_of(wrong[row].id_prefix);
         LEAVES(TL_REFUSED, 0, tl_sanitize_html_with(&own, TEXT(written), OUT, &cause));
         CHECK(cause == wrong[row].reason);
@@ -179,11 +192,13 @@ static void of_lists(void) {
     own.policy = 3;
     LEAVES(TL_NOT_UNDERSTOOD, 0, tl_sanitize_html_with(&own, TEXT(written), OUT, &cause));
     LEAVES(TL_NOT_UNDERSTOOD, 0, tl_refused_word(&own, OUT, &cause));
+    LEAVES(TL_NOT_UNDERSTOOD, 0, tl_list_options(&own, OUT));
     own.policy = TL_BLOG;
     own.id_prefix = tl_list_of("\xff");
     LEAVES(TL_NOT_UNDERSTOOD, 0, tl_sanitize_html_with(&own, TEXT(written), OUT, &cause));
     LEAVES(TL_NOT_UNDERSTOOD, 0, tl_refused_word(&own, OUT, &cause));
     CHECK(cause == TL_NO_REASON);
+    LEAVES(TL_NOT_UNDERSTOOD, 0, tl_list_options(&own, OUT));
 }
 
 static int is_told(size_t at, uint8_t why) {

@@ -32,7 +32,7 @@ static ROWS: [Row; 10] = [
     ("Policy::new, a word that is refused", PolicyCall::Policy, "b,script", "script"),
     ("WordLists::new, lists that are not said", PolicyCall::Lists, "", "wbr"),
     ("WordLists::new", PolicyCall::Lists, "b,,p", "p"),
-    ("lines_of lists", PolicyCall::Lines, "b", "--tags b\n--keys title\n--link-keys\n--links\n--prefix user-\n"),
+    ("lines_of lists", PolicyCall::Lines, "b", "--tags b\n--keys title\n--link-keys\n--links\n--classes\n--prefix user-\n"),
     ("WordIndex::new", PolicyCall::Index, "b", "p"),
 ];
 
@@ -84,6 +84,7 @@ fn texts(tags: &'static str) -> ListTexts<'static> {
         link_prefixes: is_said.then_some(""),
         relative_links: false,
         nofollow_links: false,
+        classes: is_said.then_some(""),
         id_prefix: None,
     }
 }

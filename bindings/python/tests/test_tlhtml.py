@@ -291,9 +291,14 @@ class SafePages(unittest.TestCase):
         self.assertEqual(sanitize(page, Policy.BLOG.lists(tags="h1")), "xy<h1>z</h1>c")
         self.assertEqual(sanitize(page, Policy.COMMENTS.lists(tags=["+h1", "-p"])), "x<a>y</a><h1>z</h1><b>c</b>")
         lists = Policy.COMMENTS.lists(
-            tags=("p", "a"), keys={"class", "href"}, id_prefix="own-", relative_links=True, nofollow_links=True
+            tags=("p", "a"), keys=("class", "href"), classes=["own-*"], relative_links=True, nofollow_links=True
         )
         self.assertEqual(sanitize(page, lists), '<p class="own-a">x<a rel="nofollow noopener" href="b.png">y</a></p>zc')
+        self.assertEqual(
+            Policy.COMMENTS.lists(tags="p", keys=("class", "href"), classes=["+hljs"]).options,
+            "--tags p\n--keys class,href\n--link-keys cite,href\n--links https://,http://\n--classes hljs\n--prefix user-\n",
+        )
+        self.assertEqual(Policy.BLOG.lists().options.splitlines()[-2:], ["--classes language-*", "--prefix user-"])
         self.assertEqual(sanitize("<a href=/x>é", Policy.BLOG.lists(link_prefixes=["https://"])), "<a>é</a>")
         links = "<a href=b.png>x</a><a href=/y>z</a>"
         self.assertEqual(sanitize(links, Policy.BLOG.lists(relative_links=True)), '<a href="b.png">x</a><a href="/y">z</a>')
@@ -305,6 +310,7 @@ class SafePages(unittest.TestCase):
             ({"keys": ["onclick"]}, "onclick", 5),
             ({"link_keys": ["src"]}, "cite", 7),
             ({"link_prefixes": ["data:"]}, "data:", 9),
+            ({"classes": ["*", "a*b"]}, "a*b", 18),
             ({"id_prefix": "é"}, "é", 11),
         ):
             with self.assertRaises(PolicyError) as it:

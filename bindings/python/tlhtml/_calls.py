@@ -38,7 +38,7 @@ class Lists(ctypes.Structure):
     """tl_lists."""
 
     _fields_ = [
-        *((name, List) for name in ("tags", "keys", "link_keys", "link_prefixes", "id_prefix")),
+        *((name, List) for name in ("tags", "keys", "link_keys", "link_prefixes", "classes", "id_prefix")),
         ("relative_links", ctypes.c_bool),
         ("nofollow_links", ctypes.c_bool),
         ("policy", ctypes.c_uint8),
@@ -57,6 +57,7 @@ for _name, _kind, _words in (
     ("tl_sanitize_html", ctypes.c_uint8, _LENT + _OUT),
     ("tl_sanitize_html_by", ctypes.c_uint8, [ctypes.c_uint8] + _LENT + _OUT),
     ("tl_sanitize_html_with", ctypes.c_uint8, [ctypes.POINTER(Lists)] + _LENT + _OUT + [ctypes.POINTER(ctypes.c_uint8)]),
+    ("tl_list_options", ctypes.c_uint8, [ctypes.POINTER(Lists)] + _OUT),
     ("tl_refused_word", ctypes.c_uint8, [ctypes.POINTER(Lists)] + _OUT + [ctypes.POINTER(ctypes.c_uint8)]),
     ("tl_edit_css", ctypes.c_uint8, [ctypes.c_uint8] * 2 + _LENT * 3 + _OUT + _PLACE),
     ("tl_patch_css", ctypes.c_uint8, [ctypes.c_uint8] + _LENT * 4 + _OUT + _PLACE),

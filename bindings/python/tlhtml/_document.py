@@ -34,14 +34,15 @@ class Policy(enum.IntEnum):
         keys: Iterable[str] | None = None,
         link_keys: Iterable[str] | None = None,
         link_prefixes: Iterable[str] | None = None,
+        classes: Iterable[str] | None = None,
         id_prefix: str | None = None,
         relative_links: bool = False,
         nofollow_links: bool = False,
     ) -> Lists:
         """This policy with lists of one's own in the place of those that it has: the tags and keys that may stand, the keys that hold
-        links, what links begin with, and what stands in front of `id` and `name` and of links to them, and what `class` begins with;
-        whether links beside the page may stand too, and whether each is marked with `rel="nofollow noopener"`. A PolicyError says which
-        word no policy may list.
+        links, what links begin with, the patterns of classes that may stand, and what stands in front of `id` and `name` and of links to
+        them; whether links beside the page may stand too, and whether each is marked with `rel="nofollow noopener"`. A PolicyError says
+        which word no policy may list.
 
         >>> sanitize("<p>x<b>y", Policy.COMMENTS.lists(tags=["b"]))
         'x<b>y</b>'
@@ -50,8 +51,13 @@ class Policy(enum.IntEnum):
 
         >>> sanitize("<p>x<b>y", Policy.COMMENTS.lists(tags=["-b", "+img"]))
         '<p>xy</p>'
+
+        A `*` at the end of a pattern stands for any characters.
+
+        >>> sanitize("<code class='hljs x'>y", Policy.BLOG.lists(classes=["language-*", "hljs"]))
+        '<code class="hljs">y</code>'
         """
-        words = (tags, keys, link_keys, link_prefixes)
+        words = (tags, keys, link_keys, link_prefixes, classes)
         prefix = None if id_prefix is None else utf8(id_prefix, "a prefix")
         return Lists(self, [None if it is None else _with_commas(it) for it in words] + [prefix], relative_links, nofollow_links)
 
@@ -77,6 +83,20 @@ class Lists:
         refused, cause = self._refused_word()
         if refused is not None:
             raise PolicyError(refused, cause)
+
+    @property
+    def options(self) -> str:
+        """The options of `tl sanitize` that say these lists, one on each line, so that they can be shown; also those of a policy that is
+        there.
+
+        >>> Policy.COMMENTS.lists(tags=["a", "b"]).options.splitlines()[0]
+        '--tags a,b'
+        """
+        room = Room(ctypes.c_char, 1024)
+        status = room.fill(lib.tl_list_options, self._lent)
+        if status != DONE:
+            raise error_of(status)
+        return room.text()
 
     def _refused_word(self) -> tuple[str | None, int]:
         """The first word for which they are no policy, if there is one, and the number of why."""

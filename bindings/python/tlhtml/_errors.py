@@ -47,6 +47,7 @@ REASONS = {
     15: "`td` or `th` of this table is missing, so cells lose their texts",
     16: "`caption` of this table is missing, so captions lose their texts",
     17: "`table` is missing, in which alone this tag may stand",
+    18: "no pattern of classes: it is a word without spaces and `\"`, with a `*` at its end alone",
 }
 
 

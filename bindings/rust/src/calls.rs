@@ -35,6 +35,7 @@ pub struct Lists {
     pub keys: List,
     pub link_keys: List,
     pub link_prefixes: List,
+    pub classes: List,
     pub id_prefix: List,
     pub relative_links: bool,
     pub nofollow_links: bool,
@@ -73,6 +74,12 @@ unsafe extern "C" {
         room: usize,
         needed: *mut usize,
         cause: *mut u8,
+    ) -> u8;
+    pub fn tl_list_options(
+        lists: *const Lists,
+        out: *mut u8,
+        room: usize,
+        needed: *mut usize,
     ) -> u8;
     pub fn tl_refused_word(
         lists: *const Lists,

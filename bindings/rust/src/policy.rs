@@ -46,6 +46,7 @@ impl Policy {
             keys: None,
             link_keys: None,
             link_prefixes: None,
+            classes: None,
             id_prefix: None,
             relative_links: false,
             nofollow_links: false,
@@ -61,6 +62,7 @@ pub struct Lists<'w> {
     keys: Option<&'w str>,
     link_keys: Option<&'w str>,
     link_prefixes: Option<&'w str>,
+    classes: Option<&'w str>,
     id_prefix: Option<&'w str>,
     relative_links: bool,
     nofollow_links: bool,
@@ -99,7 +101,15 @@ impl<'w> Lists<'w> {
         }
     }
 
-    /// What is put in front of values of `id` and `name` and of links to them, and what those of `class` begin with: one word.
+    /// The patterns of classes that may stand, as "language-*,hljs": a `*` at the end of one stands for any characters.
+    pub fn classes(self, patterns: &'w str) -> Lists<'w> {
+        Lists {
+            classes: Some(patterns),
+            ..self
+        }
+    }
+
+    /// What is put in front of values of `id` and `name` and of links to them: one word.
     pub fn id_prefix(self, word: &'w str) -> Lists<'w> {
         Lists {
             id_prefix: Some(word),
@@ -136,6 +146,22 @@ impl<'w> Lists<'w> {
         })
     }
 
+    /// The options of `tl sanitize` that say these lists, one on each line, so that they can be shown; also those of a policy that is there.
+    ///
+    /// ```
+    /// use tlhtml::Policy;
+    /// let lines = Policy::Comments.lists().tags("a,b").options()?;
+    /// assert_eq!(lines.lines().next(), Some("--tags a,b"));
+    /// # Ok::<(), tlhtml::Error>(())
+    /// ```
+    pub fn options(&self) -> Result<String, Error> {
+        let lists = self.lent();
+        calls::text(1024, |out, room, needed| unsafe {
+            calls::tl_list_options(&lists, out, room, needed)
+        })
+        .map_err(calls::error_of)
+    }
+
     /// The first word for which these lists are no policy, and why; `None` where they are one.
     ///
     /// ```
@@ -162,6 +188,7 @@ impl<'w> Lists<'w> {
             keys: calls::List::new(self.keys),
             link_keys: calls::List::new(self.link_keys),
             link_prefixes: calls::List::new(self.link_prefixes),
+            classes: calls::List::new(self.classes),
             id_prefix: calls::List::new(self.id_prefix),
             relative_links: self.relative_links,
             nofollow_links: self.nofollow_links,
@@ -236,4 +263,6 @@ reasons! {
     NoCaption = 16, "`caption` of this table is missing, so captions lose their texts";
     /// `table` is missing, in which alone this tag may stand.
     NoTable = 17, "`table` is missing, in which alone this tag may stand";
+    /// A pattern of classes is a word without spaces and `"`, with a `*` at its end alone.
+    MalformedClass = 18, "no pattern of classes: it is a word without spaces and `\"`, with a `*` at its end alone";
 }

@@ -388,7 +388,7 @@ fn lists_of_ones_own() {
     let lists = lists
         .tags("p,a")
         .keys("class,href")
-        .id_prefix("own-")
+        .classes("own-*")
         .relative_links()
         .nofollow_links();
     assert_eq!(
@@ -396,6 +396,10 @@ fn lists_of_ones_own() {
         Ok("<p class=\"own-a\">x<a rel=\"nofollow noopener\" href=\"b.png\">y</a></p>zc")
     );
     assert_eq!(lists.refused_word(), Ok(None));
+    assert_eq!(
+        lists.classes("+hljs").options().as_deref(),
+        Ok("--tags p,a\n--keys class,href,rel\n--link-keys cite,href\n--links https://,http://\n--relative-links\n--nofollow-links\n--classes hljs\n--prefix user-\n")
+    );
     let web = Policy::Blog.lists().link_prefixes("https://");
     assert_eq!(web.sanitize("<a href=/x>y").as_deref(), Ok("<a>y</a>"));
     let links = "<a href=b.png>x</a><a href=/y>z</a>";
@@ -420,6 +424,7 @@ fn lists_of_ones_own() {
         (lists.keys("onclick"), "onclick", Reason::ScriptKey),
         (lists.link_keys("src"), "href", Reason::LinkKey),
         (web.link_prefixes("data:"), "data:", Reason::ActiveScheme),
+        (lists.classes("*,a*b"), "a*b", Reason::MalformedClass),
         (web.id_prefix("é"), "é", Reason::MalformedPrefix),
         (lists.tags("p,table"), "table", Reason::NoTableBody),
         (lists.tags("p,td"), "td", Reason::NoTable),

@@ -22,40 +22,49 @@ module _ {A : Type 0} where
   if_false true x y is = absurd (cc)
   if_false false x y is = refl
 
-all_true : (a b c d e : Bool) → a ≡ true → b ≡ true → c ≡ true → d ≡ true → e ≡ true → (a && b && c && d && e) ≡ true
-all_true a b c d e ea eb ec ed ee = rw ea (rw eb (rw ec (rw ed (rw ee refl))))
+all_true : (a b c d e f : Bool) → a ≡ true → b ≡ true → c ≡ true → d ≡ true → e ≡ true → f ≡ true → (a && b && c && d && e && f) ≡ true
+all_true a b c d e f ea eb ec ed ee ef = rw ea (rw eb (rw ec (rw ed (rw ee (rw ef refl)))))
 
--- one of five is wrong
+-- one of six is wrong
 
-no_1 : (a b c d e : Bool) → a ≡ false → (a && b && c && d && e) ≡ false
-no_1 false b c d e is = refl
-no_1 true b c d e is = absurd (cc)
+no_1 : (a b c d e f : Bool) → a ≡ false → (a && b && c && d && e && f) ≡ false
+no_1 false b c d e f is = refl
+no_1 true b c d e f is = absurd (cc)
 
-no_2 : (a b c d e : Bool) → b ≡ false → (a && b && c && d && e) ≡ false
-no_2 false b c d e is = refl
-no_2 true false c d e is = refl
-no_2 true true c d e is = absurd (cc)
+no_2 : (a b c d e f : Bool) → b ≡ false → (a && b && c && d && e && f) ≡ false
+no_2 false b c d e f is = refl
+no_2 true false c d e f is = refl
+no_2 true true c d e f is = absurd (cc)
 
-no_3 : (a b c d e : Bool) → c ≡ false → (a && b && c && d && e) ≡ false
-no_3 false b c d e is = refl
-no_3 true false c d e is = refl
-no_3 true true false d e is = refl
-no_3 true true true d e is = absurd (cc)
+no_3 : (a b c d e f : Bool) → c ≡ false → (a && b && c && d && e && f) ≡ false
+no_3 false b c d e f is = refl
+no_3 true false c d e f is = refl
+no_3 true true false d e f is = refl
+no_3 true true true d e f is = absurd (cc)
 
-no_4 : (a b c d e : Bool) → d ≡ false → (a && b && c && d && e) ≡ false
-no_4 false b c d e is = refl
-no_4 true false c d e is = refl
-no_4 true true false d e is = refl
-no_4 true true true false e is = refl
-no_4 true true true true e is = absurd (cc)
+no_4 : (a b c d e f : Bool) → d ≡ false → (a && b && c && d && e && f) ≡ false
+no_4 false b c d e f is = refl
+no_4 true false c d e f is = refl
+no_4 true true false d e f is = refl
+no_4 true true true false e f is = refl
+no_4 true true true true e f is = absurd (cc)
 
-no_5 : (a b c d e : Bool) → e ≡ false → (a && b && c && d && e) ≡ false
-no_5 false b c d e is = refl
-no_5 true false c d e is = refl
-no_5 true true false d e is = refl
-no_5 true true true false e is = refl
-no_5 true true true true false is = refl
-no_5 true true true true true is = absurd (cc)
+no_5 : (a b c d e f : Bool) → e ≡ false → (a && b && c && d && e && f) ≡ false
+no_5 false b c d e f is = refl
+no_5 true false c d e f is = refl
+no_5 true true false d e f is = refl
+no_5 true true true false e f is = refl
+no_5 true true true true false f is = refl
+no_5 true true true true true f is = absurd (cc)
+
+no_6 : (a b c d e f : Bool) → f ≡ false → (a && b && c && d && e && f) ≡ false
+no_6 false b c d e f is = refl
+no_6 true false c d e f is = refl
+no_6 true true false d e f is = refl
+no_6 true true true false e f is = refl
+no_6 true true true true false f is = refl
+no_6 true true true true true false is = refl
+no_6 true true true true true true is = absurd (cc)
 
 none_cases : (refusal : Option Refusal) → is_none refusal ≡ true → number_of_refusal refusal ≡ 0
 none_cases None e = refl
@@ -86,6 +95,9 @@ module _ (lists : LentLists) where
   abbrev p : Bool
   p = is_text (said_text lists.link_prefixes)
 
+  abbrev c : Bool
+  c = is_text (said_text lists.classes)
+
   abbrev i : Bool
   i = is_text (said_text lists.id_prefix)
 
@@ -94,30 +106,33 @@ module _ (lists : LentLists) where
 
   -- what is said of a list is no text
   pub unread-tags : is_text (said_text lists.tags) ≡ false → lent_lists lists ≡ not_understood
-  unread-tags e = unread (no_1 t k l p i e)
+  unread-tags e = unread (no_1 t k l p c i e)
 
   pub unread-keys : is_text (said_text lists.keys) ≡ false → lent_lists lists ≡ not_understood
-  unread-keys e = unread (no_2 t k l p i e)
+  unread-keys e = unread (no_2 t k l p c i e)
 
   pub unread-link_keys : is_text (said_text lists.link_keys) ≡ false → lent_lists lists ≡ not_understood
-  unread-link_keys e = unread (no_3 t k l p i e)
+  unread-link_keys e = unread (no_3 t k l p c i e)
 
   pub unread-link_prefixes : is_text (said_text lists.link_prefixes) ≡ false → lent_lists lists ≡ not_understood
-  unread-link_prefixes e = unread (no_4 t k l p i e)
+  unread-link_prefixes e = unread (no_4 t k l p c i e)
+
+  pub unread-classes : is_text (said_text lists.classes) ≡ false → lent_lists lists ≡ not_understood
+  unread-classes e = unread (no_5 t k l p c i e)
 
   pub unread-id_prefix : is_text (said_text lists.id_prefix) ≡ false → lent_lists lists ≡ not_understood
-  unread-id_prefix e = unread (no_5 t k l p i e)
+  unread-id_prefix e = unread (no_6 t k l p c i e)
 
   -- the same texts say the same
-  pub same-options : (a b c d e : Option (List ℕ)) → a ≡ said_text lists.tags → b ≡ said_text lists.keys → c ≡ said_text lists.link_keys → d ≡ said_text lists.link_prefixes → e ≡ said_text lists.id_prefix
-      → ◌≡◌ {A = ListOptions} (record { tags = a; keys = b; link_keys = c; link_prefixes = d; relative_links = lists.relative_links; nofollow_links = lists.nofollow_links; id_prefix = e }) (said_options lists)
-  same-options a b c d e ea eb ec ed ee = rw ea (rw eb (rw ec (rw ed (rw ee refl))))
+  pub same-options : (a b c d e f : Option (List ℕ)) → a ≡ said_text lists.tags → b ≡ said_text lists.keys → c ≡ said_text lists.link_keys → d ≡ said_text lists.link_prefixes → e ≡ said_text lists.classes → f ≡ said_text lists.id_prefix
+      → ◌≡◌ {A = ListOptions} (record { tags = a; keys = b; link_keys = c; link_prefixes = d; relative_links = lists.relative_links; nofollow_links = lists.nofollow_links; classes = e; id_prefix = f }) (said_options lists)
+  same-options a b c d e f ea eb ec ed ee ef = rw ea (rw eb (rw ec (rw ed (rw ee (rw ef refl)))))
 
   -- all of it is
   pub lent-texts : is_text (said_text lists.tags) ≡ true → is_text (said_text lists.keys) ≡ true → is_text (said_text lists.link_keys) ≡ true
-      → is_text (said_text lists.link_prefixes) ≡ true → is_text (said_text lists.id_prefix) ≡ true
+      → is_text (said_text lists.link_prefixes) ≡ true → is_text (said_text lists.classes) ≡ true → is_text (said_text lists.id_prefix) ≡ true
       → lent_lists lists ≡ lists_over (said_options lists) (lists_of_number lists.policy)
-  lent-texts a b c d e = if_true (are_texts (said_options lists)) _ _ (all_true t k l p i a b c d e)
+  lent-texts a b d e f g = if_true (are_texts (said_options lists)) _ _ (all_true t k l p c i a b d e f g)
 
   module _ (page : List ℕ) where
     -- lists over what is no page, and over a page

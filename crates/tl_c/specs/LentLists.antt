@@ -2,7 +2,7 @@
 use Rattle.std.specs.Prelude.{ℕ, Bool, true, ◌&&◌, List, Option, None, Some, if◌then◌else◌}
 use Rattle.std.specs.Option.{option_map_or}
 use Rattle.std.specs.Str.{is_utf8}
-use Rattle.tl_tree_safe.specs.ListOptions.{ListOptions, list_options, lists_or_default}
+use Rattle.tl_tree_safe.specs.ListOptions.{ListOptions, list_options, lists_or_default, policy_text}
 use Rattle.tl_tree_safe.specs.declared.word_lists.ListTexts.{ListTexts}
 use Rattle.tl_page.specs.Outcome.{Outcome, not_understood, refused, success}
 use Rattle.tl_page.specs.Page.{is_page}
@@ -10,7 +10,7 @@ use Rattle.tl_tree_safe.specs.Lists.{ListedWords}
 use Rattle.tl_tree_safe.specs.Policies.{listed_words}
 use Rattle.tl_tree_safe.specs.Refusals.{Refusal, are_lawful, first_refusal}
 use Rattle.tl_tree_safe.specs.declared.refusal.Reason.{Reason}
-use Rattle.tl_tree_safe.specs.declared.refusal.Reason.TheVariants.{MalformedTag, OpaqueTag, StructuralTag, MalformedKey, ScriptKey, ActiveKey, LinkKey, MalformedLink, ActiveScheme, NoScheme, MalformedPrefix, UnlistedMark, NoTableBody, NoRow, NoCell, NoCaption, NoTable}
+use Rattle.tl_tree_safe.specs.declared.refusal.Reason.TheVariants.{MalformedClass, MalformedTag, OpaqueTag, StructuralTag, MalformedKey, ScriptKey, ActiveKey, LinkKey, MalformedLink, ActiveScheme, NoScheme, MalformedPrefix, UnlistedMark, NoTableBody, NoRow, NoCell, NoCaption, NoTable}
 use Rattle.tl_c.specs.SafePages.{kept_page}
 use Rattle.tl_c.specs.Policies.{lists_of_number}
 use Rattle.tl_c.specs.Queries.{outcome_of_some}
@@ -30,6 +30,7 @@ said_options lists = record {
   link_prefixes = said_text lists.link_prefixes;
   relative_links = lists.relative_links;
   nofollow_links = lists.nofollow_links;
+  classes = said_text lists.classes;
   id_prefix = said_text lists.id_prefix;
 }
 
@@ -40,7 +41,7 @@ is_text said = option_map_or is_utf8 said true
 abbrev pub are_texts : ListOptions → Bool
 are_texts said =
     is_text said.tags && is_text said.keys && is_text said.link_keys
-    && is_text said.link_prefixes && is_text said.id_prefix
+    && is_text said.link_prefixes && is_text said.classes && is_text said.id_prefix
 
 -- lists that are said, and those of a policy for the others; where there is no such policy that is
 -- not understood
@@ -73,6 +74,12 @@ abbrev pub kept_with : LentLists → List ℕ → Outcome (List ℕ)
 kept_with lists page =
     if is_page page then kept_by_lists (lent_lists lists) page else not_understood
 
+-- the options that say lists, one on each line
+abbrev pub lines_in : Outcome ListedWords → Outcome (List ℕ)
+lines_in (success own) = success (policy_text own)
+lines_in refused = refused
+lines_in not_understood = not_understood
+
 -- the first word for which lists are no policy, and why
 abbrev pub refusal_in : Outcome ListedWords → Option Refusal
 refusal_in (success own) = first_refusal own
@@ -104,6 +111,7 @@ number_of_reason NoRow = 14
 number_of_reason NoCell = 15
 number_of_reason NoCaption = 16
 number_of_reason NoTable = 17
+number_of_reason MalformedClass = 18
 
 -- the number of why lists are no policy, 0 where they are one
 abbrev pub number_of_refusal : Option Refusal → ℕ

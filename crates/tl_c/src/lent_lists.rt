@@ -17,6 +17,7 @@ pub struct LentLists<'c> {
     pub keys: LentList<'c>,
     pub link_keys: LentList<'c>,
     pub link_prefixes: LentList<'c>,
+    pub classes: LentList<'c>,
     pub id_prefix: LentList<'c>,
     pub relative_links: bool,
     pub nofollow_links: bool,

@@ -6,7 +6,7 @@ ghost use Rattle.tl_tree_safe.specs.OfPolicy.{lists_of};
 ghost use Rattle.tl_tree_safe.specs.Refusals.{are_lawful, first_refusal};
 ghost use Rattle.tl_page.specs.Outcome.{Gives, success};
 ghost use Rattle.tl_page.specs.declared.failure.Failure.TheVariants.{NotUnderstood, OutOfMemory, Refused};
-ghost use Rattle.tl_c.specs.LentLists.{is_text, kept_lawful, kept_with, lent_lists, lists_in_texts, number_of_reason, number_of_refusal, refusal_in, refused_word, said_text};
+ghost use Rattle.tl_c.specs.LentLists.{is_text, kept_lawful, kept_with, lent_lists, lines_in, lists_in_texts, number_of_reason, number_of_refusal, refusal_in, refused_word, said_text};
 ghost use Rattle.tl_c.specs.SafePages.{IsSafe};
 ghost use Rattle.tl_html_spec.specs.HtmlTokenizer.{without_mark};
 
@@ -16,7 +16,7 @@ use crate::policy::policy_of;
 use crate::text::text_of;
 use std::alloc::Global;
 use tl_page::{Failure, text};
-use tl_tree_safe::{ListTexts, Policy, Reason, WordLists};
+use tl_tree_safe::{ListTexts, Policy, Reason, WordLists, lines_of};
 
 // The number of a reason in `tl.h`.
 fn number_of_reason(reason: Reason) -> u8
@@ -40,6 +40,7 @@ fn number_of_reason(reason: Reason) -> u8
         Reason::NoCell => 15,
         Reason::NoCaption => 16,
         Reason::NoTable => 17,
+        Reason::MalformedClass => 18,
     }
 }
 
@@ -64,6 +65,7 @@ fn texts_of<'c>(lists: &LentLists<'c>) -> Result<ListTexts<'c>, Failure>
     let keys = said_text(&lists.keys)?;
     let link_keys = said_text(&lists.link_keys)?;
     let link_prefixes = said_text(&lists.link_prefixes)?;
+    let classes = said_text(&lists.classes)?;
     let id_prefix = said_text(&lists.id_prefix)?;
     match policy_of(lists.policy) {
         Some(policy) => Ok(ListTexts {
@@ -74,6 +76,7 @@ fn texts_of<'c>(lists: &LentLists<'c>) -> Result<ListTexts<'c>, Failure>
             link_prefixes,
             relative_links: lists.relative_links,
             nofollow_links: lists.nofollow_links,
+            classes,
             id_prefix,
         }),
         None => Err(Failure::NotUnderstood),
@@ -160,6 +163,17 @@ fn word_refused_of(alloc: Global, words: &WordLists<'_>, cause: &mut u8) -> Resu
             Ok(word.into_bytes())
         }
     }
+}
+
+/// The options of `tl sanitize` that say lists, one on each line.
+pub(crate) fn lines_with(alloc: Global, lists: &LentLists<'_>) -> Result<Vec<u8>, Failure>
+    ensures gives { let lines = lines_in (lent_lists lists.now) in
+        Gives (λ text. text.items) lines result }
+{
+    let texts = texts_of(lists)?;
+    let words = WordLists::new(alloc, &texts)?;
+    let lines = lines_of(alloc, &words.lists())?;
+    Ok(lines.into_bytes())
 }
 
 /// The first word for which lists are no policy, and the number of why. Of lists that are one that

@@ -5,7 +5,7 @@ ghost use Rattle.tl_tree_safe.specs.OwnLists.{blog_lists};
 ghost use Rattle.tl_page.specs.Outcome.{success};
 ghost use Rattle.tl_c.specs.Css.{IsTold, IsUnasked, wrong_in};
 ghost use Rattle.tl_c.specs.Edits.{IsEditRefused, PutsEdited, patch_of_number};
-ghost use Rattle.tl_c.specs.LentLists.{kept_with, lent_lists, number_of_refusal, refusal_in, refused_word};
+ghost use Rattle.tl_c.specs.LentLists.{kept_with, lent_lists, lines_in, number_of_refusal, refusal_in, refused_word};
 ghost use Rattle.tl_c.specs.Patches.{IsPatchRefused, PutsPatched, change_of_number};
 ghost use Rattle.tl_c.specs.Policies.{kept_by, lists_of_number};
 ghost use Rattle.tl_c.specs.Puts.{Puts};
@@ -15,7 +15,7 @@ ghost use Rattle.tl_html_spec.specs.HtmlTokenizer.{without_mark};
 use crate::copy_out::{copy_items, copy_result};
 use crate::element_edit::edit_elements;
 use crate::lent_lists::LentLists;
-use crate::own_policy::{safe_page_with, word_refused};
+use crate::own_policy::{lines_with, safe_page_with, word_refused};
 use crate::page::safe_page;
 use crate::patch::patch;
 use crate::policy::safe_page_by;
@@ -97,6 +97,21 @@ pub extern "C" fn tl_sanitize_html_with(
     ensures long { u32.MAX < length page.now → result ≡ 2 }
 {
     copy_result(safe_page_with(alloc, lists, page, cause), out, needed)
+}
+
+/// Writes the options of `tl sanitize` that say lists that are lent, one on each line, whether they
+/// are a policy or not.
+#[unsafe(no_mangle)]
+pub extern "C" fn tl_list_options(
+    alloc: Global,
+    lists: &LentLists<'_>,
+    out: &mut [u8],
+    needed: &mut usize,
+) -> u8
+    ensures put { let lines = lines_in (lent_lists lists.now) in
+        Puts lines out.old out.new needed.new result }
+{
+    copy_result(lines_with(alloc, lists), out, needed)
 }
 
 /// Writes the first word for which lists that are lent are no policy; `cause` is the number of why

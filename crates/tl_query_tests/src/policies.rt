@@ -5,11 +5,12 @@ use tl_tree_safe::{
     without_mark,
 };
 
-// Lists, the word for which they are no policy, and why: an empty word, and links that are marked
-// at a key that isn't listed.
+// Lists, the word for which they are no policy, and why: an empty word, a pattern of classes, and
+// links that are marked at a key that isn't listed.
 #[rattlefmt::skip]
-static REFUSED_ROWS: [(Lists<'static>, &str, Reason); 7] = [
+static REFUSED_ROWS: [(Lists<'static>, &str, Reason); 8] = [
     (Lists { tags: &[""], ..Lists::BLOG }, "", Reason::MalformedTag),
+    (Lists { classes: &["*", "a*", "*a"], ..Lists::BLOG }, "*a", Reason::MalformedClass),
     (Lists { nofollow_links: true, ..Lists::BLOG }, "rel", Reason::UnlistedMark),
     (Lists { tags: &["caption", "table", "tbody", "td", "tfoot", "th", "tr"], ..Lists::BLOG }, "table", Reason::NoTableBody),
     (Lists { tags: &["caption", "table", "tbody", "td", "tfoot", "th", "thead"], ..Lists::BLOG }, "table", Reason::NoRow),
@@ -100,6 +101,7 @@ fn says(rt: &HostRuntime, tags: &str, tag: &str, key: &str, lines: &str) -> bool
         link_prefixes: Some("/"),
         relative_links: false,
         nofollow_links: true,
+        classes: Some("+hljs"),
         id_prefix: Some("x-"),
     };
     let Ok(words) = WordLists::new(rt.alloc(), &texts) else {
@@ -115,6 +117,6 @@ fn says(rt: &HostRuntime, tags: &str, tag: &str, key: &str, lines: &str) -> bool
 #[test]
 fn lists_of_texts(rt: HostRuntime) {
     let lines =
-        "--tags b,p\n--keys href,rel\n--link-keys cite,href\n--links /\n--nofollow-links\n--prefix x-\n";
+        "--tags b,p\n--keys href,rel\n--link-keys cite,href\n--links /\n--nofollow-links\n--classes hljs\n--prefix x-\n";
     assert!(rt; says(&rt, "b,,p", "p", "rel", lines));
 }

@@ -1,18 +1,22 @@
 -- Values that stay as they are.
-use Rattle.std.proofs.Common.{Bool, List, [], ap, ap₂, arith, false, if◌then◌else◌, not, refl, reverse, sym, true, true≢false, ℕ, ◌&&◌, ◌==◌, ◌++◌, ◌∙◌, ◌∷◌, ◌≡◌, ◌||◌}
+use Rattle.std.proofs.Common.{Bool, List, [], ap, ap₂, arith, cond, false, if◌then◌else◌, not, refl, reverse, sym, true, true≢false, ℕ, ◌&&◌, ◌==◌, ◌++◌, ◌∙◌, ◌∷◌, ◌≡◌, ◌||◌}
 use Rattle.std.specs.Char.{is_ascii_uppercase, to_ascii_lowercase}
 use Rattle.std.specs.List.{filter, list_all}
 use Rattle.std.proofs.lemmas.Bool.{and_from, and_parts}
 use Rattle.std.proofs.lemmas.Bool.Decides.{nat_tests}
 use Rattle.std.proofs.lemmas.List.{reverse-append, reverse-reverse}
 use Rattle.std.proofs.lemmas.List.Folds.{list_all-append}
+use Rattle.std.specs.Str.{bytes_eq}
 use Rattle.tl_safe_fit.specs.Words.{is_among}
+use Rattle.tl_tree_safe.proofs.ClassWords.{classes_all, classes_same}
 use Rattle.tl_tree_safe.proofs.Filters.{all_also, filter_same}
 use Rattle.tl_tree_safe.proofs.Whole.{whole_stays}
+use Rattle.tl_tree_safe.specs.Classes.{are_classes, kept_classes}
 use Rattle.tl_tree_safe.specs.Inner.Cleaning.{is_whole}
 use Rattle.tl_tree_safe.specs.Inner.Staying.{is_low, is_read_so, is_said_so, stays_whole}
-use Rattle.tl_tree_safe.specs.Kept.{cleaned, kept_value}
-use Rattle.tl_tree_safe.specs.Lists.{ListedWords, all_begin, are_own_names, has_front, is_link_byte, is_space, leads_to_own}
+use Rattle.tl_tree_safe.specs.Characters.{cleaned, is_said, is_space, said_byte}
+use Rattle.tl_tree_safe.specs.Kept.{kept_value}
+use Rattle.tl_tree_safe.specs.Lists.{ListedWords, all_begin, are_own_names, class_key, has_front, is_link_byte, leads_to_own}
 use Rattle.tl_tree_safe.specs.Values.{begins_scheme, is_blank, is_in_line, link_read, lowered_to_colon, own_link, own_names, prefixed, says_names, scheme_lowered, trimmed_end, trimmed_start}
 
 -- Links that are read as they stand
@@ -88,20 +92,46 @@ own_link_same p (b ∷ name) h = here (b == 35) h
     here true k = ap (λ t. b ∷ t) (own_same p.id_prefix false name k)
     here false k = refl
 
+-- Classes
+
+whole_byte : (b : ℕ) (v : Bool) → (b == 13) ≡ v → is_said (if v then 32 else b) ≡ true → is_whole (if v then 32 else b) ≡ true
+whole_byte b true e s = refl
+whole_byte b false e s =
+    let q = and_parts (not (b == 0)) (not (b == 27)) s in
+    and_from _ _ (and_from _ _ q.0 (ap not e)) q.1
+
+cleaned-whole : (bytes : List ℕ) → list_all is_whole (cleaned bytes) ≡ true
+cleaned-whole [] = refl
+cleaned-whole (b ∷ bytes) = here (is_said (said_byte b)) refl (cleaned-whole bytes)
+  where
+    here : (v : Bool) → is_said (said_byte b) ≡ v → list_all is_whole (cleaned bytes) ≡ true → list_all is_whole (cond v (said_byte b ∷ cleaned bytes) (cleaned bytes)) ≡ true
+    here true e k = and_from _ _ (whole_byte b (b == 13) refl e) k
+    here false e k = k
+
+-- nothing of those that stay is to be cleaned
+pub classes_clean : (patterns : List (List ℕ)) (value : List ℕ) → cleaned (kept_classes patterns (cleaned value)) ≡ kept_classes patterns (cleaned value)
+classes_clean patterns value =
+    whole_stays (kept_classes patterns (cleaned value)) (classes_all is_whole patterns (cleaned value) refl (cleaned-whole value))
+
 -- Values, by their keys
 
 pub whole_value : (p : ListedWords) (key s : List ℕ) → stays_whole p key s ≡ true → kept_value p key s ≡ s
 whole_value p key s h =
     let q = and_parts (list_all is_whole s) (is_said_so p key s) h in
-    ap cleaned (here (is_among p.link_keys key) (says_names key) q.1) ∙ whole_stays s q.0
+    ap cleaned (here (is_among p.link_keys key) (bytes_eq key class_key) (says_names key) q.1) ∙ whole_stays s q.0
   where
     link : is_read_so s && leads_to_own p s ≡ true → own_link p (link_read s) ≡ s
     link k =
         let r = and_parts (is_read_so s) (leads_to_own p s) k in
         ap (own_link p) (read_so s r.0) ∙ own_link_same p s r.1
 
-    here : (l n : Bool) → (if l then is_read_so s && leads_to_own p s else not n || are_own_names p s) ≡ true
-        → (if l then own_link p (link_read s) else if n then own_names p s else s) ≡ s
-    here true n k = link k
-    here false true k = own_same p.id_prefix false s k
-    here false false k = refl
+    classes : are_classes p.classes s ≡ true → kept_classes p.classes (cleaned s) ≡ s
+    classes k =
+        ap (kept_classes p.classes) (whole_stays s (and_parts (list_all is_whole s) (is_said_so p key s) h).0) ∙ classes_same p.classes s k
+
+    here : (l c n : Bool) → (if l then is_read_so s && leads_to_own p s else if c then are_classes p.classes s else not n || are_own_names p s) ≡ true
+        → (if l then own_link p (link_read s) else if c then kept_classes p.classes (cleaned s) else if n then own_names p s else s) ≡ s
+    here true c n k = link k
+    here false true n k = classes k
+    here false false true k = own_same p.id_prefix false s k
+    here false false false k = refl

@@ -6,7 +6,7 @@ use Rattle.std.specs.Option.{option_map, option_or}
 use Rattle.std.proofs.lemmas.Bool.{and_from}
 use Rattle.tl_safe_fit.specs.Words.{is_among}
 use Rattle.tl_tree_safe.specs.Lists.{ListedWords, is_key_byte, is_plain_name, is_tag_byte, is_word_of, lists_plain_names, lists_words, may_mark, opaque_names, rel_key, structural_names}
-use Rattle.tl_tree_safe.specs.Refusals.{Refusal, active_keys, are_lawful, first_refusal, first_refused, key_reason, known_link_keys, link_reason, prefix_reason, refused_mark, refused_table, refused_word, tag_reason}
+use Rattle.tl_tree_safe.specs.Refusals.{Refusal, active_keys, are_lawful, class_reason, first_refusal, first_refused, key_reason, known_link_keys, link_reason, prefix_reason, refused_mark, refused_table, refused_word, tag_reason}
 use Rattle.tl_tree_safe.specs.declared.refusal.Reason.{Reason}
 use Rattle.tl_tree_safe.specs.declared.refusal.Reason.TheVariants.{MalformedKey, MalformedTag, OpaqueTag, StructuralTag, UnlistedMark}
 
@@ -71,8 +71,9 @@ unrefused : (p : ListedWords) → first_refusal p ≡ None → Unrefused p
 unrefused p h =
     let a = neither (option_or (refused_word p) (refused_mark p)) (refused_table p.tags) h in
     let b = neither (refused_word p) (refused_mark p) a.0 in
-    let c = neither (option_or (option_or (first_refused tag_reason p.tags) (first_refused (key_reason p.link_keys) p.keys)) (first_refused link_reason p.link_prefixes)) (first_refused prefix_reason (p.id_prefix ∷ [])) b.0 in
-    let d = neither (option_or (first_refused tag_reason p.tags) (first_refused (key_reason p.link_keys) p.keys)) (first_refused link_reason p.link_prefixes) c.0 in
+    let c = neither (option_or (option_or (option_or (first_refused tag_reason p.tags) (first_refused (key_reason p.link_keys) p.keys)) (first_refused link_reason p.link_prefixes)) (first_refused class_reason p.classes)) (first_refused prefix_reason (p.id_prefix ∷ [])) b.0 in
+    let o = neither (option_or (option_or (first_refused tag_reason p.tags) (first_refused (key_reason p.link_keys) p.keys)) (first_refused link_reason p.link_prefixes)) (first_refused class_reason p.classes) c.0 in
+    let d = neither (option_or (first_refused tag_reason p.tags) (first_refused (key_reason p.link_keys) p.keys)) (first_refused link_reason p.link_prefixes) o.0 in
     let e = neither (first_refused tag_reason p.tags) (first_refused (key_reason p.link_keys) p.keys) d.0 in
     record { tags = e.0; keys = e.1; mark = b.1 }
 

@@ -10,12 +10,15 @@ pub mod Passes
 pub mod KindFacts
 pub mod LevelFacts
 pub mod Whole
+pub mod ClassWords
 pub mod KeptValues
 pub mod WrittenAttributes
 pub mod WalkSteps
 pub mod Walks
 pub mod OpenElements
 pub mod WalkRows
+pub mod TellingSteps
+pub mod Tellings
 pub mod SaidTexts
 pub mod Commas
 pub mod Marks

@@ -13,7 +13,8 @@ use Rattle.tl_safe_fit.specs.Words.{is_among}
 use Rattle.tl_spec.specs.Lex.ByteClass.{is_void}
 use Rattle.tl_tree_safe.proofs.Filters.{all_also, both_all, filter_all, filter_also, filter_none, map_all}
 use Rattle.tl_tree_safe.specs.Fitted.{Names, fitted, in_place, inside, is_read, past_lines, unlined}
-use Rattle.tl_tree_safe.specs.Kept.{cleaned, goes, has_key, is_beside_mark, is_listed_attribute, is_marked_link, is_said, joined, kept, kept_attribute, kept_attributes, kept_element, kept_tag, mark, marked_where, said_byte, stays, unwrapped}
+use Rattle.tl_tree_safe.specs.Characters.{cleaned, is_said, said_byte}
+use Rattle.tl_tree_safe.specs.Kept.{goes, has_key, is_beside_mark, is_listed_attribute, is_marked_link, joined, kept, kept_attribute, kept_attributes, kept_element, kept_tag, mark, marked_where, stays, unwrapped}
 use Rattle.tl_tree_safe.specs.Listed.{begins_marked, is_marked, is_target}
 use Rattle.tl_tree_safe.specs.Lists.{ListedWords, is_listed_link, linking_names, lists_words, may_mark, opaque_names, rel_key, rel_value}
 use Rattle.tl_tree_safe.specs.OwnKeys.{HaveOwnKeys, are_apart, comes_again}
@@ -125,7 +126,7 @@ mark_own p l n =
     let q = (and_parts _ (not p.nofollow_links || may_mark p) l).1 in
     let m : may_mark p ≡ true = ap (λ v. not v || may_mark p) (sym n) ∙ q in
     let r = and_parts (is_among p.keys rel_key) (not (is_among p.link_keys rel_key)) m in
-    ap₂ (λ (k l : Bool). ((true && k) && (((not l || is_listed_link p rel_value) && true) && true)) && true) r.0 (not-true (is_among p.link_keys rel_key) r.1)
+    ap₂ (λ (k l : Bool). ((true && k) && ((((not l || is_listed_link p rel_value) && true) && true) && true)) && true) r.0 (not-true (is_among p.link_keys rel_key) r.1)
 
 same_target : (xs : List Attribute) → list_any is_target (map pair_of xs) ≡ list_any (has_key (codes "href")) xs
 same_target [] = refl

@@ -21,7 +21,7 @@ pub record IsElement (o : Option Node) : Type 0 where
   pub tag : Tag
   pub is : o ≡ Some (an_element tag)
 
-element_of : (o : Option Node) → option_map kind_of o ≡ Some Element → IsElement o
+pub element_of : (o : Option Node) → option_map kind_of o ≡ Some Element → IsElement o
 element_of None e = cc
 element_of (Some (an_element tag)) e = record { tag = tag; is = refl }
 element_of (Some contents) e = cc
@@ -38,7 +38,7 @@ fate_same p level tag = here (is_html tag)
     here false = refl
 
 module _ (p : ListedWords) (R : List Row) (spot : Spot) (n : ℕ) where
-  fate_by : (tag : Tag) → node_at R n ≡ Some (an_element tag) → fate_at p R spot.level n ≡ fate_of p spot.level tag
+  pub fate_by : (tag : Tag) → node_at R n ≡ Some (an_element tag) → fate_at p R spot.level n ≡ fate_of p spot.level tag
   fate_by tag e =
       ap (λ o. unwrap_or (option_map (named_fate p spot.level) (option_and_then html_name o)) Goes) e ∙ fate_same p spot.level tag
 

@@ -20,7 +20,8 @@ use Rattle.tl_tree_safe.proofs.Passes.{void_is}
 use Rattle.tl_tree_safe.specs.Fitted.{is_read}
 use Rattle.tl_tree_safe.specs.Inner.Levels.{level_of, names_of}
 use Rattle.tl_tree_safe.specs.Inner.Pass.{Written, element_pass, first_said, followed, part_pass, pass, passed, place_pass, text_pass, text_said, unchanged}
-use Rattle.tl_tree_safe.specs.Kept.{cleaned, goes, kept_tag, part_of, stays, unwrapped}
+use Rattle.tl_tree_safe.specs.Characters.{cleaned}
+use Rattle.tl_tree_safe.specs.Kept.{goes, kept_tag, part_of, stays, unwrapped}
 use Rattle.tl_tree_safe.specs.Lists.{ListedWords, lists_plain_names, opaque_names}
 use Rattle.tl_tree_spec.specs.Groups.{group}
 use Rattle.tl_tree_spec.specs.HtmlForest.{is_empty}

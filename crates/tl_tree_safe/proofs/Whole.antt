@@ -7,7 +7,7 @@ use Rattle.std.proofs.lemmas.List.Folds.{list_all_at}
 use Rattle.std.proofs.lemmas.List.Sums.{list_all-from_AllPass}
 use Rattle.memchr.specs.Find.{IsFirstByte, is_byte3}
 use Rattle.tl_tree_safe.specs.Inner.Cleaning.{is_whole}
-use Rattle.tl_tree_safe.specs.Kept.{cleaned, is_said}
+use Rattle.tl_tree_safe.specs.Characters.{cleaned, is_said}
 
 -- a search for a byte that may not stand, and a test of all bytes
 none_found : (stops stays : ℕ → Bool) → ((b : ℕ) → stays b ≡ not (stops b)) → (s : List ℕ) (r : Option ℕ) → IsFirstByte stops s r → list_all stays s ≡ not (is_some r)

@@ -1,6 +1,6 @@
 -- Words for worked rows. No contract cites them.
 use Prim.Native.String.{String}
-use Rattle.std.specs.Prelude.{List, None, [], codes, false, true, ℕ, ◌∷◌}
+use Rattle.std.specs.Prelude.{List, None, Some, [], codes, false, true, ℕ, ◌∷◌}
 use Rattle.tl_dom_spec.specs.HtmlForest.{HtmlForest}
 use Rattle.tl_dom_spec.specs.HtmlTree.{html_fragment}
 use Rattle.tl_dom_spec.specs.Tags.{bare_tag}
@@ -8,6 +8,8 @@ use Rattle.tl_html_print.specs.Serialized.{serialized}
 use Rattle.tl_tree_safe.specs.Kept.{kept}
 use Rattle.tl_tree_safe.specs.KeptFitted.{kept_fitted}
 use Rattle.tl_tree_safe.specs.Lists.{ListedWords}
+use Rattle.tl_tree_safe.specs.Removed.{Gone, removed}
+use Rattle.tl_tree_safe.specs.declared.removal.Cause.{Cause}
 
 -- the trees of a text in a `div`
 abbrev pub trees_of : String → HtmlForest
@@ -21,6 +23,7 @@ some_lists = record {
   link_prefixes = codes "https:" ∷ codes "/" ∷ [];
   relative_links = false;
   nofollow_links = false;
+  classes = [];
   id_prefix = codes "user-";
 }
 
@@ -40,6 +43,12 @@ naming_lists = record some_lists {
   link_prefixes = codes "#" ∷ some_lists.link_prefixes;
 }
 
+abbrev pub class_lists : ListedWords
+class_lists = record some_lists {
+  keys = codes "class" ∷ some_lists.keys;
+  classes = codes "language-*" ∷ codes "hljs" ∷ [];
+}
+
 abbrev pub marking_lists : ListedWords
 marking_lists = record some_lists { keys = codes "rel" ∷ some_lists.keys; nofollow_links = true }
 
@@ -47,3 +56,13 @@ marking_lists = record some_lists { keys = codes "rel" ∷ some_lists.keys; nofo
 abbrev pub fitted_with : List (List ℕ) → String → List ℕ
 fitted_with tags markup =
     serialized false None (kept_fitted (record some_lists { tags = tags }) (trees_of markup))
+
+-- what goes of a text
+abbrev pub removed_in : String → List Gone
+removed_in markup = removed some_lists (trees_of markup)
+
+abbrev pub tag_goes : ℕ → Cause → Gone
+tag_goes node cause = record { node = node; key = None; cause = cause }
+
+abbrev pub key_goes : ℕ → String → Cause → Gone
+key_goes node key cause = record { node = node; key = Some (codes key); cause = cause }

@@ -1,29 +1,17 @@
 -- What a policy keeps of trees.
 use Rattle.std.specs.List.{list_any}
-use Rattle.std.specs.Prelude.{Bool, List, codes, false, filter, if◌then◌else◌, map, not, true, ℕ, ◌&&◌, ◌==◌, ◌∷◌}
+use Rattle.std.specs.Prelude.{Bool, List, codes, false, filter, if◌then◌else◌, map, not, true, ℕ, ◌&&◌, ◌∷◌}
 use Rattle.std.specs.Str.{bytes_eq}
 use Rattle.tl_dom_spec.specs.HtmlForest.{HtmlForest, comment, doctype, element, no_trees, text}
 use Rattle.tl_dom_spec.specs.Marks.{Marked}
 use Rattle.tl_dom_spec.specs.Tags.{Attribute, AttributeSpace, Tag, is_html, no_space}
 use Rattle.tl_safe_fit.specs.Words.{is_among}
 use Rattle.tl_spec.specs.Lex.ByteClass.{is_void}
+use Rattle.tl_tree_safe.specs.Characters.{cleaned}
 use Rattle.tl_tree_safe.specs.Lists.{ListedWords, is_listed_value, linking_names, opaque_names, rel_key, rel_value}
 use Rattle.tl_tree_safe.specs.Values.{own_value}
 
--- Characters
-
--- a carriage return, which only a reference gives, is shown as a space, and would be read as a line
--- feed
-abbrev pub said_byte : ℕ → ℕ
-said_byte b = if b == 13 then 32 else b
-
--- neither 0, nor 27, with which a text of another character set begins
-abbrev pub is_said : ℕ → Bool
-is_said b = not (b == 0) && not (b == 27)
-
--- what stays of a text or a value
-abbrev pub cleaned : List ℕ → List ℕ
-cleaned bytes = filter is_said (map said_byte bytes)
+-- Texts
 
 abbrev pub cleaned_text : Marked (List ℕ) → Marked (List ℕ)
 cleaned_text own = record own { said = cleaned own.said }

@@ -1,3 +1,5 @@
+pub mod Characters
+pub mod Classes
 pub mod Lists
 pub mod Values
 pub mod Kept
@@ -15,3 +17,4 @@ pub mod OwnKeys
 pub mod Examples
 pub mod Inner
 pub mod InDiv
+pub mod Removed

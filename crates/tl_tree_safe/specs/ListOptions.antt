@@ -4,6 +4,7 @@ use Rattle.std.specs.Borrow.{Bor}
 use Rattle.std.specs.List.{filter, list_any, slice_split}
 use Rattle.std.specs.Option.{option_map}
 use Rattle.std.specs.Str.{bytes_eq}
+use Rattle.tl_tree_safe.specs.Characters.{is_word}
 use Rattle.tl_tree_safe.specs.Lists.{ListedWords}
 use Rattle.tl_safe_fit.specs.Words.{is_among, words_of}
 use Rattle.tl_tree_safe.specs.declared.word_lists.ListTexts.{ListTexts}
@@ -11,11 +12,6 @@ use Rattle.tl_tree_safe.specs.declared.word_lists.WordLists.{WordLists}
 
 abbrev pub is_comma : ℕ → Bool
 is_comma b = b == 44
-
--- a word that is not empty
-abbrev pub is_word : List ℕ → Bool
-is_word [] = false
-is_word (b ∷ word) = true
 
 -- the words between commas, without empty ones
 abbrev pub words_in : List ℕ → List (List ℕ)
@@ -38,6 +34,7 @@ pub record ListOptions : Type 0 where
   pub link_prefixes : Option (List ℕ)
   pub relative_links : Bool
   pub nofollow_links : Bool
+  pub classes : Option (List ℕ)
   pub id_prefix : Option (List ℕ)
 
 abbrev pub list_options : ListTexts → ListOptions
@@ -48,6 +45,7 @@ list_options texts = record {
   link_prefixes = text_of texts.link_prefixes;
   relative_links = texts.relative_links;
   nofollow_links = texts.nofollow_links;
+  classes = text_of texts.classes;
   id_prefix = text_of texts.id_prefix;
 }
 
@@ -117,6 +115,7 @@ lists_or_default s own = record {
   link_prefixes = words_or_default s.link_prefixes own.link_prefixes;
   relative_links = s.relative_links || own.relative_links;
   nofollow_links = s.nofollow_links || own.nofollow_links;
+  classes = words_or_default s.classes own.classes;
   id_prefix = prefix_or_default s.id_prefix own.id_prefix;
 }
 
@@ -129,6 +128,7 @@ lists_in w = record {
   link_prefixes = words_of w.link_prefixes.items;
   relative_links = w.relative_links;
   nofollow_links = w.nofollow_links;
+  classes = words_of w.classes.items;
   id_prefix = w.id_prefix.now;
 }
 
@@ -165,4 +165,5 @@ policy_text p =
     ++ option_line (codes "--links") p.link_prefixes
     ++ relative_line p.relative_links
     ++ nofollow_line p.nofollow_links
+    ++ option_line (codes "--classes") p.classes
     ++ option_line (codes "--prefix") (p.id_prefix ∷ [])

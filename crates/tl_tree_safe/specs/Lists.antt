@@ -5,10 +5,13 @@ use Rattle.std.specs.List.{list_all, list_any, starts_with}
 use Rattle.std.specs.Prelude.{Bool, List, [], codes, false, nat_lt, not, true, ℕ, ◌&&◌, ◌==◌, ◌||◌, ◌∷◌}
 use Rattle.std.specs.Str.{bytes_eq}
 use Rattle.tl_safe_fit.specs.Words.{is_among}
+use Rattle.tl_tree_safe.specs.Characters.{is_space}
+use Rattle.tl_tree_safe.specs.Classes.{are_classes}
 
 -- the names of tags and the keys that may stand, the keys that hold links, what links begin with,
 -- whether relative links may stand beside these, whether links are marked as what nobody vouches
--- for, and what names begin with that others can refer to
+-- for, the patterns of the classes that may stand, and what names begin with that others can refer
+-- to
 pub record ListedWords : Type 0 where
   pub tags : List (List ℕ)
   pub keys : List (List ℕ)
@@ -16,6 +19,7 @@ pub record ListedWords : Type 0 where
   pub link_prefixes : List (List ℕ)
   pub relative_links : Bool
   pub nofollow_links : Bool
+  pub classes : List (List ℕ)
   pub id_prefix : List ℕ
 
 -- Words
@@ -148,10 +152,6 @@ is_own_byte b =
 abbrev pub is_own_name : ListedWords → List ℕ → Bool
 is_own_name p value = starts_with ◌==◌ value p.id_prefix && list_all is_own_byte value
 
--- the white space of ASCII
-abbrev pub is_space : ℕ → Bool
-is_space b = b == 32 || b == 9 || b == 10 || b == 12 || b == 13
-
 -- a text begins within a word, or with white space, or with a prefix
 abbrev pub has_front : List ℕ → Bool → List ℕ → Bool
 has_front prefix in_word [] = true
@@ -186,5 +186,6 @@ is_listed_link p value =
 abbrev pub is_listed_value : ListedWords → List ℕ → List ℕ → Bool
 is_listed_value p key value =
     (not (is_among p.link_keys key) || is_listed_link p value)
-    && (not (is_among naming_keys key || bytes_eq key class_key) || is_own_name p value)
+    && (not (is_among naming_keys key) || is_own_name p value)
+    && (not (bytes_eq key class_key) || are_classes p.classes value)
     && (not (is_among referring_keys key) || are_own_names p value)

@@ -28,6 +28,7 @@ blog_lists = record {
       codes "https://" ∷ codes "http://" ∷ codes "mailto:" ∷ codes "/" ∷ codes "#" ∷ [];
   relative_links = false;
   nofollow_links = false;
+  classes = codes "language-*" ∷ [];
   id_prefix = codes "user-";
 }
 
@@ -43,6 +44,7 @@ comment_lists = record {
   link_prefixes = codes "https://" ∷ codes "http://" ∷ [];
   relative_links = false;
   nofollow_links = false;
+  classes = [];
   id_prefix = codes "user-";
 }
 
@@ -65,5 +67,6 @@ document_lists = record {
       codes "https://" ∷ codes "http://" ∷ codes "mailto:" ∷ codes "/" ∷ codes "#" ∷ [];
   relative_links = true;
   nofollow_links = false;
+  classes = codes "language-*" ∷ [];
   id_prefix = codes "user-";
 }

@@ -12,5 +12,6 @@ listed_words lists = record {
   link_prefixes = words_of lists.link_prefixes.now;
   relative_links = lists.relative_links;
   nofollow_links = lists.nofollow_links;
+  classes = words_of lists.classes.now;
   id_prefix = lists.id_prefix.now;
 }

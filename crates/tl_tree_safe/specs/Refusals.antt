@@ -3,11 +3,13 @@ use Rattle.std.specs.Prelude.{Bool, List, None, Option, Some, [], codes, false, 
 use Rattle.std.specs.List.{list_all, list_any, starts_with}
 use Rattle.std.specs.Option.{option_map, option_or}
 use Rattle.tl_safe_fit.specs.Words.{is_among}
+use Rattle.tl_tree_safe.specs.Characters.{is_word}
+use Rattle.tl_tree_safe.specs.Classes.{before_last}
 use Rattle.tl_tree_safe.specs.Lists.{ListedWords, is_key_byte, is_link_byte, is_tag_byte, is_word_of, may_mark, opaque_names, rel_key, structural_names}
 use Rattle.std.specs.Char.{is_ascii_lowercase}
 use Rattle.tl_tree_safe.specs.declared.refusal.PolicyError.{PolicyError}
 use Rattle.tl_tree_safe.specs.declared.refusal.Reason.{Reason}
-use Rattle.tl_tree_safe.specs.declared.refusal.Reason.TheVariants.{ActiveKey, ActiveScheme, LinkKey, MalformedKey, MalformedLink, MalformedPrefix, MalformedTag, NoCaption, NoCell, NoRow, NoScheme, NoTable, NoTableBody, OpaqueTag, ScriptKey, StructuralTag, UnlistedMark}
+use Rattle.tl_tree_safe.specs.declared.refusal.Reason.TheVariants.{ActiveKey, ActiveScheme, LinkKey, MalformedClass, MalformedKey, MalformedLink, MalformedPrefix, MalformedTag, NoCaption, NoCell, NoRow, NoScheme, NoTable, NoTableBody, OpaqueTag, ScriptKey, StructuralTag, UnlistedMark}
 
 -- Names
 
@@ -85,6 +87,22 @@ link_reason word =
     else if begins_with_any active_schemes word then Some ActiveScheme
     else None
 
+-- Classes
+
+-- what stands in a pattern: neither a control character of ASCII, nor white space, `"` or `*`
+abbrev pub is_pattern_byte : ℕ → Bool
+is_pattern_byte b = is_link_byte b && not (b == 42)
+
+-- such bytes, of which the last may be a `*`
+abbrev pub is_pattern : List ℕ → Bool
+is_pattern pattern =
+    is_word pattern && list_all is_link_byte pattern
+    && list_all is_pattern_byte (before_last pattern)
+
+-- why no policy may have a pattern of classes, if none may
+abbrev pub class_reason : List ℕ → Option Reason
+class_reason pattern = if is_pattern pattern then None else Some MalformedClass
+
 -- The prefix
 
 -- why no policy may have a prefix, if none may
@@ -153,10 +171,11 @@ refused_table tags =
 -- word may be a link key
 abbrev pub refused_word : ListedWords → Option Refusal
 refused_word p =
-    option_or (option_or (option_or
+    option_or (option_or (option_or (option_or
     (first_refused tag_reason p.tags)
     (first_refused (key_reason p.link_keys) p.keys))
     (first_refused link_reason p.link_prefixes))
+    (first_refused class_reason p.classes))
     (first_refused prefix_reason (p.id_prefix ∷ []))
 
 -- the first word that is refused, then the key of the mark, then what is wrong with tables

@@ -1,8 +1,11 @@
 -- What a value says at a key.
 use Rattle.std.specs.Char.{is_ascii_alphabetic, is_ascii_alphanumeric, to_ascii_lowercase}
 use Rattle.std.specs.Prelude.{Bool, List, [], false, filter, if◌then◌else◌, nat_lt, not, reverse, ℕ, ◌&&◌, ◌++◌, ◌==◌, ◌||◌, ◌∷◌}
+use Rattle.std.specs.Str.{bytes_eq}
 use Rattle.tl_safe_fit.specs.Words.{is_among}
-use Rattle.tl_tree_safe.specs.Lists.{ListedWords, has_front, is_space, naming_keys, referring_keys}
+use Rattle.tl_tree_safe.specs.Characters.{cleaned, is_space}
+use Rattle.tl_tree_safe.specs.Classes.{kept_classes}
+use Rattle.tl_tree_safe.specs.Lists.{ListedWords, class_key, has_front, naming_keys, referring_keys}
 
 -- Links, as the URL standard reads them (its basic URL parser): without the control characters and
 -- spaces at both ends, and without the tabs and line ends within; a scheme in any case says the
@@ -81,9 +84,10 @@ says_names key = is_among naming_keys key || is_among referring_keys key
 
 -- Values
 
--- what a value says at a key
+-- what a value says at a key; of classes those alone that the policy lists
 abbrev pub own_value : ListedWords → List ℕ → List ℕ → List ℕ
 own_value p key value =
     if is_among p.link_keys key then own_link p (link_read value)
+    else if bytes_eq key class_key then kept_classes p.classes (cleaned value)
     else if says_names key then own_names p value
     else value

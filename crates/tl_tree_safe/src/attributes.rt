@@ -1,11 +1,12 @@
 //! Attributes that stay.
-ghost use Rattle.std.specs.Prelude.{IfOk, OnOk, flat_map, ◌++◌, ◌≡◌};
+ghost use Rattle.std.specs.Prelude.{IfOk, OnOk, flat_map, ◌&&◌, ◌++◌, ◌≡◌};
 ghost use Rattle.tl_dom_spec.specs.Tags.{plain_attribute};
 ghost use Rattle.tl_html_print.specs.Serialized.{serialized_attribute};
+ghost use Rattle.tl_safe_fit.specs.Words.{is_among};
 ghost use Rattle.tl_tree.specs.Asked.{attribute_said, attributes_at};
 ghost use Rattle.tl_tree.specs.TreeView.{rows_in};
 ghost use Rattle.tl_tree_safe.specs.Inner.Attributes.{listed_written, with_value};
-ghost use Rattle.tl_tree_safe.specs.Kept.{is_listed_attribute, kept_attribute, kept_attributes};
+ghost use Rattle.tl_tree_safe.specs.Kept.{has_no_space, is_listed_attribute, kept_attribute, kept_attributes};
 ghost use Rattle.tl_tree_safe.specs.Policies.{listed_words};
 
 use crate::lists::Lists;
@@ -15,14 +16,20 @@ use std::alloc::{AllocError, Global};
 use tl_html_print::write_escaped;
 use tl_tree::{Attribute, AttributeSpace, Tree};
 
+/// Whether the key of an attribute is listed.
+pub(crate) fn is_listed_key(lists: &Lists<'_>, attribute: &Attribute<'_>) -> bool
+    ensures { result ≡ (has_no_space (attribute_said attribute.now).space
+        && is_among (listed_words lists.now).keys attribute.now.key.now) }
+{
+    matches!(attribute.space, AttributeSpace::Plain) && is_among(lists.keys, attribute.key)
+}
+
 // Whether an attribute may stand with a value.
 fn is_listed(lists: &Lists<'_>, attribute: &Attribute<'_>, value: &[u8]) -> bool
     ensures { result ≡ is_listed_attribute (listed_words lists.now)
         (with_value (attribute_said attribute.now) value.now) }
 {
-    matches!(attribute.space, AttributeSpace::Plain)
-        && is_among(lists.keys, attribute.key)
-        && lists.lists_value(attribute.key, value)
+    is_listed_key(lists, attribute) && lists.lists_value(attribute.key, value)
 }
 
 // Writes a key with its value.

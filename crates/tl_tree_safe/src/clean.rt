@@ -3,7 +3,7 @@ ghost use Rattle.std.specs.List.{list_all};
 ghost use Rattle.std.specs.Prelude.{IfOk, OnOk, ◌++◌, ◌≡◌};
 ghost use Rattle.tl_html_print.specs.Serialized.{escaped};
 ghost use Rattle.tl_tree_safe.specs.Inner.Cleaning.{is_whole};
-ghost use Rattle.tl_tree_safe.specs.Kept.{cleaned, is_said, said_byte};
+ghost use Rattle.tl_tree_safe.specs.Characters.{cleaned, is_said, said_byte};
 
 use memchr::memchr3;
 use std::alloc::{AllocError, Global};

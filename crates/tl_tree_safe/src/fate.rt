@@ -62,8 +62,8 @@ fn named_fate(lists: &Lists<'_>, level: &Level, name: &[u8]) -> Fate
     }
 }
 
-// The name of an element of HTML.
-fn html_name<'t>(tree: &'t Tree<'_>, number: usize) -> Option<&'t [u8]>
+/// The name of an element of HTML.
+pub(crate) fn html_name<'t>(tree: &'t Tree<'_>, number: usize) -> Option<&'t [u8]>
     ensures { option_copied result ≡ html_name_at (rows_in tree.now) number }
 {
     if tree.namespace(number)? != Namespace::Html {

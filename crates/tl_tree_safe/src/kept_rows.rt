@@ -1,8 +1,8 @@
 //! Worked rows: pages, and what is kept of their trees.
 
 ghost use Rattle.std.specs.Prelude.{[], codes, ◌∷◌, ◌≡◌};
-ghost use Rattle.tl_tree_safe.specs.Examples.{kept_by, kept_in, marking_lists, naming_lists, relative_lists};
-ghost use Rattle.tl_tree_safe.specs.Kept.{cleaned};
+ghost use Rattle.tl_tree_safe.specs.Examples.{class_lists, kept_by, kept_in, marking_lists, naming_lists, relative_lists};
+ghost use Rattle.tl_tree_safe.specs.Characters.{cleaned};
 
 /// Elements by their names.
 pub fn elements()
@@ -71,6 +71,24 @@ pub fn names()
         ≡ codes "<a href=\"/#a\"></a>" }
     ensures references { kept_by naming_lists "<p headers='a  user-b c'>"
         ≡ codes "<p headers=\"user-a  user-b user-c\"></p>" }
+{}
+
+/// Classes by the patterns of a policy.
+pub fn classes()
+    ensures some { kept_by class_lists "<p class='hljs a  language-c++'>"
+        ≡ codes "<p class=\"hljs language-c++\"></p>" }
+    ensures by_any_white_space { kept_by class_lists "<p class=' hljs&Tab;language- '>"
+        ≡ codes "<p class=\"hljs language-\"></p>" }
+    ensures none { kept_by class_lists "<p class='a b'>" ≡ codes "<p></p>" }
+    ensures part_of_a_word { kept_by class_lists "<p class='hljs-a xhljs xlanguage-c language'>"
+        ≡ codes "<p></p>" }
+    ensures another_case { kept_by class_lists "<p class=HLJS>" ≡ codes "<p></p>" }
+    ensures without_patterns { kept_by (record class_lists { classes = [] }) "<p class=hljs>"
+        ≡ codes "<p></p>" }
+    ensures any { kept_by (record class_lists { classes = codes "*" ∷ [] }) "<p class=' a  b '>"
+        ≡ codes "<p class=\"a b\"></p>" }
+    ensures any_without_a_word { kept_by (record class_lists { classes = codes "*" ∷ [] })
+        "<p class=' '>" ≡ codes "<p></p>" }
 {}
 
 /// Links are marked where the policy wants it.

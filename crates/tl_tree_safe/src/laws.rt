@@ -1,6 +1,6 @@
 //! Laws of the definitions.
 
-ghost use Rattle.std.specs.Prelude.{Bool, List, None, false, length, nat_le, not, true, ℕ, ◌++◌, ◌∷◌, ◌≡◌, ◌≤◌};
+ghost use Rattle.std.specs.Prelude.{Bool, List, None, false, length, nat_le, not, true, ℕ, ◌++◌, ◌∷◌, ◌≡◌, ◌≤◌, ◌||◌};
 ghost use Rattle.tl_dom_spec.specs.Builder.{Flags};
 ghost use Rattle.tl_dom_spec.specs.HtmlForest.{HtmlForest, element};
 ghost use Rattle.tl_dom_spec.specs.HtmlTree.{Context, html_fragment_by, html_tree_by};
@@ -13,6 +13,8 @@ ghost use Rattle.tl_html_spec.specs.HtmlTokenizer.{data_state};
 ghost use Rattle.tl_html_spec.specs.Reader.{at, tokens_of};
 ghost use Rattle.tl_safe_fit.specs.Levels.{most_open};
 ghost use Rattle.tl_spec.specs.Lex.ByteClass.{is_void};
+ghost use Rattle.tl_tree_safe.specs.Characters.{is_word};
+ghost use Rattle.tl_tree_safe.specs.Classes.{are_classes, kept_classes};
 ghost use Rattle.tl_tree_safe.specs.Fitted.{Names, at_top, fitted, inside};
 ghost use Rattle.tl_tree_safe.specs.Joined.{texts_joined};
 ghost use Rattle.tl_tree_safe.specs.KeptFitted.{kept_fitted};
@@ -22,6 +24,16 @@ ghost use Rattle.tl_tree_safe.specs.OwnKeys.{HaveOwnKeys};
 ghost use Rattle.tl_tree_safe.specs.Settled.{settled};
 ghost use Rattle.tl_tree_spec.specs.Groups.{group};
 ghost use Rattle.tl_tree_spec.specs.Stays.{is_alone, may_stand};
+
+/// What stays of classes, if anything does, is classes that may stand, and stays as it is.
+#[tactic(auto, using(crate::proofs::ClassWords::kept_are, crate::proofs::ClassWords::kept_again))]
+pub fn kept_classes_stay()
+    ensures listed { (patterns : List (List ℕ)) (value : List ℕ) →
+        (not (is_word (kept_classes patterns value))
+        || are_classes patterns (kept_classes patterns value)) ≡ true }
+    ensures same { (patterns : List (List ℕ)) (value : List ℕ) →
+        kept_classes patterns (kept_classes patterns value) ≡ kept_classes patterns value }
+{}
 
 /// What is made to stay is settled: each tag and text may stand where it is. And trees of which
 /// that holds come out as they were.

@@ -3,6 +3,7 @@
 #![tactic(auto)]
 
 mod attributes;
+mod classes;
 mod clean;
 mod fate;
 mod fitted_rows;
@@ -20,9 +21,13 @@ mod policy_rows;
 mod reasons;
 mod refusal;
 mod refused;
+mod removal;
+mod removed_rows;
 mod sanitizer;
 mod start_tag;
+mod telling;
 mod texts;
+mod told_walk;
 mod values;
 mod walk;
 mod word_lists;
@@ -35,5 +40,6 @@ pub use fragment::{sanitize_fragment, without_mark};
 pub use lists::Lists;
 pub use policy::Policy;
 pub use refusal::{PolicyError, Reason};
-pub use sanitizer::sanitize;
+pub use removal::{Cause, Removal};
+pub use sanitizer::{sanitize, sanitize_telling};
 pub use word_lists::{ListTexts, WordLists, lines_of};

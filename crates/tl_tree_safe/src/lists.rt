@@ -4,6 +4,7 @@ ghost use Rattle.std.specs.List.{list_all, starts_with};
 ghost use Rattle.tl_tree_safe.specs.Lists.{is_listed_link, is_listed_value, is_own_byte, is_own_name};
 ghost use Rattle.tl_tree_safe.specs.Policies.{listed_words};
 
+use crate::classes::are_classes;
 use crate::links::{begins_link, has_link_bytes, is_relative};
 use crate::names::{is_naming_key, is_referring_key};
 use crate::own_names::{all_begin, leads_to_own};
@@ -27,8 +28,11 @@ pub struct Lists<'w> {
     /// Whether `rel="nofollow noopener"` is put on each link of `a` and `area`, in place of another
     /// `rel`. The key `rel` has to be listed then, and not as one that holds links.
     pub nofollow_links: bool,
+    /// The patterns of the classes that may stand: a word, of which a `*` at its end stands for any
+    /// characters.
+    pub classes: &'w [&'w str],
     /// What stands in front of names: the values of `id` and `name` get it, and so do links and
-    /// other references to them. The values of `class` begin with it.
+    /// other references to them.
     pub id_prefix: &'w str,
 }
 
@@ -78,7 +82,8 @@ impl<'w> Lists<'w> {
         ensures { result ≡ is_listed_value (listed_words self.now) key.now value.now }
     {
         (!is_among(self.link_keys, key) || self.lists_link(value))
-            && (!(is_naming_key(key) || key == b"class".as_slice()) || self.has_prefix(value))
+            && (!is_naming_key(key) || self.has_prefix(value))
+            && (key != b"class".as_slice() || are_classes(self.classes, value))
             && (!is_referring_key(key) || all_begin(self.id_prefix.as_bytes(), value))
     }
 }

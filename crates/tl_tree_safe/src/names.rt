@@ -15,6 +15,7 @@ pub(crate) enum ByteClass {
     TagName,
     AttributeKey,
     OfBeginning,
+    OfPattern,
 }
 
 static OPAQUE_NAMES: [&str; 13] = [
@@ -138,6 +139,7 @@ fn has_class(class: ByteClass, byte: u8) -> bool
         ByteClass::OfBeginning => {
             is_link_byte(byte) && byte < 127 && byte != b'<' && byte != b'>'
         }
+        ByteClass::OfPattern => is_link_byte(byte) && byte != b'*',
     }
 }
 

@@ -64,6 +64,7 @@ impl Lists<'static> {
         link_prefixes: &["https://", "http://", "mailto:", "/", "#"],
         relative_links: false,
         nofollow_links: false,
+        classes: &["language-*"],
         id_prefix: "user-",
     };
 
@@ -96,6 +97,7 @@ impl Lists<'static> {
         link_prefixes: &["https://", "http://"],
         relative_links: false,
         nofollow_links: false,
+        classes: &[],
         id_prefix: "user-",
     };
 
@@ -178,6 +180,7 @@ impl Lists<'static> {
         link_prefixes: &["https://", "http://", "mailto:", "/", "#"],
         relative_links: true,
         nofollow_links: false,
+        classes: &["language-*"],
         id_prefix: "user-",
     };
 }

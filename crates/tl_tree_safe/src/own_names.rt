@@ -1,9 +1,10 @@
 //! Names that others refer to, with the policy's prefix in front.
 ghost use Rattle.std.specs.Prelude.{IfOk, OnOk, false, ◌++◌, ◌≡◌};
-ghost use Rattle.tl_tree_safe.specs.Lists.{all_begin, has_front, is_space, leads_to_own};
+ghost use Rattle.tl_tree_safe.specs.Lists.{all_begin, has_front, leads_to_own};
 ghost use Rattle.tl_tree_safe.specs.Policies.{listed_words};
 ghost use Rattle.tl_tree_safe.specs.Values.{front_of, own_link, prefixed, says_names};
 
+use crate::classes::is_space;
 use crate::lists::Lists;
 use crate::names::{is_naming_key, is_referring_key};
 use std::alloc::{AllocError, Global};
@@ -13,13 +14,6 @@ pub(crate) fn says_names(key: &[u8]) -> bool
     ensures { result ≡ says_names key.now }
 {
     is_naming_key(key) || is_referring_key(key)
-}
-
-// Whether a byte is white space of ASCII.
-fn is_space(byte: u8) -> bool
-    ensures { result ≡ is_space byte }
-{
-    byte == b' ' || byte == b'\t' || byte == b'\n' || byte == 0x0c || byte == b'\r'
 }
 
 // Whether a text begins within a word, or with white space, or with a prefix.

@@ -28,9 +28,9 @@ impl<'w> Policy<'w> {
     ghost use Rattle.tl_tree_safe.specs.Refusals.{first_refusal, refusal_of};
 
     /// The policy of these lists, or the first word that no policy may list: by the order of tags,
-    /// keys, link prefixes and the prefix of names, and of the words in each; then `rel`, where
-    /// links are marked and may not be; then `table` or a part of a table, where one lacks the
-    /// other. Any word may be a link key.
+    /// keys, link prefixes, patterns of classes and the prefix of names, and of the words in each;
+    /// then `rel`, where links are marked and may not be; then `table` or a part of a table, where
+    /// one lacks the other. Any word may be a link key.
     pub fn new(lists: Lists<'w>) -> Result<Policy<'w>, PolicyError<'w>>
         ensures lists { IfOk result (λ policy. lists_of policy ≡ listed_words lists.entry) }
 

@@ -4,7 +4,7 @@ ghost use Rattle.std.specs.Prelude.{None, Some, [], codes, true, ◌∷◌, ◌�
 ghost use Rattle.tl_tree_safe.specs.ListOptions.{said_over};
 ghost use Rattle.tl_tree_safe.specs.OwnLists.{blog_lists};
 ghost use Rattle.tl_tree_safe.specs.Refusals.{first_refusal};
-ghost use Rattle.tl_tree_safe.specs.declared.refusal.Reason.TheVariants.{ActiveScheme, LinkKey, MalformedTag, NoCaption, NoCell, NoRow, NoScheme, NoTable, NoTableBody, OpaqueTag, ScriptKey, StructuralTag, UnlistedMark};
+ghost use Rattle.tl_tree_safe.specs.declared.refusal.Reason.TheVariants.{ActiveScheme, LinkKey, MalformedClass, MalformedTag, NoCaption, NoCell, NoRow, NoScheme, NoTable, NoTableBody, OpaqueTag, ScriptKey, StructuralTag, UnlistedMark};
 
 /// Names of tags.
 pub fn tags()
@@ -18,7 +18,7 @@ pub fn tags()
         ≡ Some (codes "form", StructuralTag) }
 {}
 
-/// Keys, and what links begin with.
+/// Keys, what links begin with, and patterns of classes.
 pub fn attributes()
     ensures script { first_refusal (record blog_lists { keys = codes "onclick" ∷ [] })
         ≡ Some (codes "onclick", ScriptKey) }
@@ -29,6 +29,15 @@ pub fn attributes()
     ensures part_of_a_scheme { first_refusal
         (record blog_lists { link_prefixes = codes "java" ∷ [] })
         ≡ Some (codes "java", NoScheme) }
+    ensures pattern { first_refusal (record blog_lists {
+      classes = codes "*" ∷ codes "a" ∷ codes "a*" ∷ codes "*a" ∷ [];
+    }) ≡ Some (codes "*a", MalformedClass) }
+    ensures two_stars { first_refusal (record blog_lists { classes = codes "a**" ∷ [] })
+        ≡ Some (codes "a**", MalformedClass) }
+    ensures two_words { first_refusal (record blog_lists { classes = codes "a b" ∷ [] })
+        ≡ Some (codes "a b", MalformedClass) }
+    ensures no_pattern { first_refusal (record blog_lists { classes = codes "" ∷ [] })
+        ≡ Some (codes "", MalformedClass) }
     ensures mark { first_refusal (record blog_lists { nofollow_links = true })
         ≡ Some (codes "rel", UnlistedMark) }
 {}

@@ -1,8 +1,9 @@
 //! Why no policy may list a word.
 ghost use Rattle.std.specs.Prelude.{[], codes, ◌∷◌, ◌≡◌};
 ghost use Rattle.tl_safe_fit.specs.Words.{words_of};
-ghost use Rattle.tl_tree_safe.specs.Refusals.{key_reason, lacking, link_reason, lists_all, part_reason, prefix_reason, tag_reason};
+ghost use Rattle.tl_tree_safe.specs.Refusals.{class_reason, is_pattern, key_reason, lacking, link_reason, lists_all, part_reason, prefix_reason, tag_reason};
 
+use crate::links::has_link_bytes;
 use crate::names::{
     ByteClass, all_have_class, begins_path, has_active_scheme, has_scheme, is_active_key,
     is_known_link_key, is_opaque, is_part, is_structural, is_word_of,
@@ -56,6 +57,26 @@ pub(crate) fn link_reason(word: &[u8]) -> Option<Reason>
         Some(Reason::ActiveScheme)
     } else {
         None
+    }
+}
+
+// Whether bytes are a pattern of classes.
+fn is_pattern(pattern: &[u8]) -> bool
+    ensures { result ≡ is_pattern pattern.now }
+{
+    !pattern.is_empty()
+        && has_link_bytes(pattern)
+        && all_have_class(ByteClass::OfPattern, &pattern[..pattern.len() - 1])
+}
+
+/// Why no policy may have a pattern of classes, if none may.
+pub(crate) fn class_reason(pattern: &[u8]) -> Option<Reason>
+    ensures { result ≡ class_reason pattern.now }
+{
+    if is_pattern(pattern) {
+        None
+    } else {
+        Some(Reason::MalformedClass)
     }
 }
 

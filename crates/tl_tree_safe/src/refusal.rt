@@ -25,6 +25,9 @@ pub enum Reason {
     ActiveScheme,
     /// Links begin with a scheme and its `:`, or with `/`, `#`, `?` or `.`.
     NoScheme,
+    /// A pattern of classes is printable characters without spaces and `"`, of which the last alone
+    /// may be a `*`.
+    MalformedClass,
     /// A prefix is a letter of a-z, and then letters and `-`.
     MalformedPrefix,
     /// Links are marked at this key, so it has to be listed, and not as one that holds links.
@@ -59,6 +62,7 @@ impl Reason {
             Reason::MalformedLink | Reason::ActiveScheme | Reason::NoScheme => {
                 "no policy may let links begin with"
             }
+            Reason::MalformedClass => "no pattern of classes:",
             Reason::MalformedPrefix => "no prefix of names:",
             Reason::UnlistedMark => "no policy may mark links at",
         }
@@ -81,6 +85,9 @@ impl fmt::Display for Reason {
             Reason::ActiveScheme => "such links are programs or documents",
             Reason::NoScheme => {
                 "it is no scheme with its `:`, and no `/`, `#`, `?` or `.` stands first"
+            }
+            Reason::MalformedClass => {
+                "a pattern is a word without spaces and `\"`, and a `*` stands at its end alone"
             }
             Reason::MalformedPrefix => "a prefix is a letter of a-z, and then letters and `-`",
             Reason::UnlistedMark => "it is no listed key, or a link key",

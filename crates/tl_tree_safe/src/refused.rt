@@ -10,7 +10,9 @@ ghost use Rattle.tl_tree_safe.specs.Policies.{listed_words};
 ghost use Rattle.tl_tree_safe.specs.Refusals.{first_refusal, first_refused, lacking, prefix_reason, refusal_of, refused_mark, refused_table, refused_word, table_name};
 
 use crate::lists::Lists;
-use crate::reasons::{key_reason, lacking, link_reason, part_reason, prefix_reason, tag_reason};
+use crate::reasons::{
+    class_reason, key_reason, lacking, link_reason, part_reason, prefix_reason, tag_reason,
+};
 use crate::refusal::{PolicyError, Reason};
 use crate::words::is_among;
 
@@ -20,6 +22,7 @@ pub(crate) enum Role {
     Tag,
     Key,
     LinkPrefix,
+    ClassPattern,
     TagWithoutTable,
 }
 
@@ -31,6 +34,7 @@ fn reason_in(role: Role, link_keys: &[&str], word: &[u8]) -> Option<Reason>
         Role::Tag => tag_reason(word),
         Role::Key => key_reason(link_keys, word),
         Role::LinkPrefix => link_reason(word),
+        Role::ClassPattern => class_reason(word),
         Role::TagWithoutTable => part_reason(word),
     }
 }
@@ -71,6 +75,7 @@ fn refused_word<'w>(lists: &Lists<'w>) -> Option<PolicyError<'w>>
     first_refused(Role::Tag, link_keys, lists.tags)
         .or_else(|| first_refused(Role::Key, link_keys, lists.keys))
         .or_else(|| first_refused(Role::LinkPrefix, link_keys, lists.link_prefixes))
+        .or_else(|| first_refused(Role::ClassPattern, link_keys, lists.classes))
         .or_else(|| refused_prefix(lists.id_prefix))
 }
 

@@ -6,6 +6,7 @@ ghost use Rattle.tl_tree_safe.specs.Kept.{kept_value};
 ghost use Rattle.tl_tree_safe.specs.Policies.{listed_words};
 ghost use Rattle.tl_tree_safe.specs.Values.{begins_scheme, is_blank, is_in_line, is_scheme_byte, link_read, lowered_where, reaches_colon, scheme_lowered, trimmed_end, trimmed_start};
 
+use crate::classes::{are_classes, kept_classes};
 use crate::clean::{clean, is_clean};
 use crate::links::has_link_bytes;
 use crate::lists::Lists;
@@ -158,6 +159,8 @@ fn is_said_so(lists: &Lists<'_>, key: &[u8], value: &[u8]) -> bool
 {
     if is_among(lists.link_keys, key) {
         is_read_so(value) && leads_to_own(lists, value)
+    } else if key == b"class".as_slice() {
+        are_classes(lists.classes, value)
     } else {
         !says_names(key) || all_begin(lists.id_prefix.as_bytes(), value)
     }
@@ -171,6 +174,7 @@ pub(crate) fn stays_whole(lists: &Lists<'_>, key: &[u8], value: &[u8]) -> bool
 }
 
 /// What stays of a value at a key.
+#[tactic(auto, using(crate::proofs::KeptValues::classes_clean))]
 pub(crate) fn kept_value(
     alloc: Global,
     lists: &Lists<'_>,
@@ -184,6 +188,11 @@ pub(crate) fn kept_value(
         let link = link_read(alloc, value)?;
         let own = own_link(alloc, lists, &link)?;
         let kept = clean(alloc, &own)?;
+        return Ok(kept);
+    }
+    if key == b"class".as_slice() {
+        let said = clean(alloc, value)?;
+        let kept = kept_classes(alloc, lists.classes, &said)?;
         return Ok(kept);
     }
     if says_names(key) {

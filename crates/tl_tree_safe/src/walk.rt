@@ -9,8 +9,8 @@ use crate::writer::{Writer, end_of};
 use std::alloc::{AllocError, Global};
 use tl_tree::Tree;
 
-// The node that comes next: the one behind, or the one behind what is below.
-fn next_of(tree: &Tree<'_>, number: usize, is_passed: bool) -> usize
+/// The node that comes next: the one behind, or the one behind what is below.
+pub(crate) fn next_of(tree: &Tree<'_>, number: usize, is_passed: bool) -> usize
     requires { number + 1 < 2 ^ 64 }
     ensures value { result ≡ next_by (rows_in tree.now) number is_passed }
     ensures further { number < result }

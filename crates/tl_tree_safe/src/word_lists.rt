@@ -21,6 +21,7 @@ pub struct ListTexts<'c> {
     pub link_prefixes: Option<&'c str>,
     pub relative_links: bool,
     pub nofollow_links: bool,
+    pub classes: Option<&'c str>,
     pub id_prefix: Option<&'c str>,
 }
 
@@ -126,6 +127,7 @@ pub struct WordLists<'c> {
     link_prefixes: Vec<&'c str>,
     relative_links: bool,
     nofollow_links: bool,
+    classes: Vec<&'c str>,
     id_prefix: &'c str,
 }
 
@@ -144,6 +146,7 @@ impl<'c> WordLists<'c> {
             link_prefixes: list(alloc, texts.link_prefixes, own.link_prefixes)?,
             relative_links: texts.relative_links | own.relative_links,
             nofollow_links,
+            classes: list(alloc, texts.classes, own.classes)?,
             id_prefix: id_prefix(texts.id_prefix, own.id_prefix),
         })
     }
@@ -159,6 +162,7 @@ impl<'c> WordLists<'c> {
             link_prefixes: self.link_prefixes.as_slice(),
             relative_links: self.relative_links,
             nofollow_links: self.nofollow_links,
+            classes: self.classes.as_slice(),
             id_prefix: self.id_prefix,
         }
     }
@@ -214,6 +218,7 @@ pub fn lines_of(alloc: Global, lists: &Lists<'_>) -> Result<String, AllocError>
     write_line("--links", lists.link_prefixes, &mut out)?;
     write_flag(lists.relative_links, &mut out)?;
     write_mark_flag(lists.nofollow_links, &mut out)?;
+    write_line("--classes", lists.classes, &mut out)?;
     write_line("--prefix", &[lists.id_prefix], &mut out)?;
     Ok(out)
 }

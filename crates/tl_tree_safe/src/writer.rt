@@ -1,14 +1,18 @@
 //! What a walk over a tree knows of where it has come to.
 ghost use Rattle.std.specs.Option.{option_map, unwrap_or};
-ghost use Rattle.std.specs.Prelude.{IfOk, OnOk, [], ◌++◌, ◌≡◌};
+ghost use Rattle.std.specs.Prelude.{IfOk, OnOk, [], map, ◌++◌, ◌≡◌};
 ghost use Rattle.tl_tree.specs.TreeView.{rows_in};
 ghost use Rattle.tl_tree_safe.specs.Inner.Walk.{begin, behind_element, behind_row, behind_text, end_or_none, end_written, ended, ends_before, ends_written, fate_written, innermost_end, inside, is_passed_at, outside_one, row_written, spot_of, start_at, text_at, text_written};
+ghost use Rattle.tl_tree_safe.specs.Inner.Telling.{row_told};
 ghost use Rattle.tl_tree_safe.specs.Policies.{listed_words};
+ghost use Rattle.tl_tree_safe.specs.Removed.{gone_of};
 ghost use Rattle.tl_tree_safe.specs.declared.fate.Fate.TheVariants.{Stays};
 
 use crate::fate::{Fate, fate_of};
 use crate::lists::Lists;
+use crate::removal::Removal;
 use crate::start_tag::write_start;
+use crate::telling::tell_element;
 use crate::texts::write_text;
 use std::alloc::{AllocError, Global};
 use tl_safe_fit::{
@@ -184,6 +188,30 @@ impl Writer {
         };
         self.fresh = write_text(alloc, self.level.path.flow, self.fresh, text, out)?;
         Ok(())
+    }
+
+    /// Tells what goes of a node, where this comes next.
+    pub(crate) fn tell<'t>(
+        &self,
+        alloc: Global,
+        lists: &Lists<'_>,
+        tree: &'t Tree<'_>,
+        number: usize,
+        told: &mut Vec<Removal<'t>>,
+    ) -> Result<(), AllocError>
+        ensures { OnOk result (map gone_of told.new.items ≡ map gone_of told.old.items
+            ++ row_told (listed_words lists.now) (rows_in tree.now) (spot_of self.now) number) }
+    {
+        let Some(kind) = tree.kind(number) else {
+            return Ok(());
+        };
+        match kind {
+            NodeKind::Element => {
+                let fate = fate_of(lists, &self.level, tree, number);
+                tell_element(alloc, lists, tree, number, fate, told)
+            }
+            _ => Ok(()),
+        }
     }
 
     /// Writes what stays of a node, and says whether what is below it is passed.

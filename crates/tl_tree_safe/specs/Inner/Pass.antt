@@ -5,7 +5,8 @@ use Rattle.tl_dom_spec.specs.Tags.{Tag}
 use Rattle.tl_html_print.specs.Serialized.{end_tag, escaped, start_tag}
 use Rattle.tl_spec.specs.Lex.ByteClass.{is_void}
 use Rattle.tl_tree_safe.specs.Fitted.{Names, at_top, is_read, past_lines}
-use Rattle.tl_tree_safe.specs.Kept.{Part, cleaned, goes, kept_tag, part_of, stays, unwrapped}
+use Rattle.tl_tree_safe.specs.Characters.{cleaned}
+use Rattle.tl_tree_safe.specs.Kept.{Part, goes, kept_tag, part_of, stays, unwrapped}
 use Rattle.tl_tree_safe.specs.Lists.{ListedWords}
 use Rattle.tl_tree_spec.specs.Builder.{is_flow, mode_of}
 use Rattle.tl_tree_spec.specs.Groups.{group}

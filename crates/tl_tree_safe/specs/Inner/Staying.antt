@@ -2,9 +2,11 @@
 use Rattle.std.specs.Char.{is_ascii_uppercase}
 use Rattle.std.specs.List.{list_all}
 use Rattle.std.specs.Prelude.{Bool, List, [], if◌then◌else◌, not, true, ℕ, ◌&&◌, ◌==◌, ◌||◌, ◌∷◌}
+use Rattle.std.specs.Str.{bytes_eq}
 use Rattle.tl_safe_fit.specs.Words.{is_among}
+use Rattle.tl_tree_safe.specs.Classes.{are_classes}
 use Rattle.tl_tree_safe.specs.Inner.Cleaning.{is_whole}
-use Rattle.tl_tree_safe.specs.Lists.{ListedWords, are_own_names, is_link_byte, leads_to_own}
+use Rattle.tl_tree_safe.specs.Lists.{ListedWords, are_own_names, class_key, is_link_byte, leads_to_own}
 use Rattle.tl_tree_safe.specs.Values.{begins_scheme, says_names}
 
 -- no letter in upper case stands before the first `:`
@@ -20,6 +22,7 @@ is_read_so link = list_all is_link_byte link && (not (begins_scheme link) || is_
 abbrev pub is_said_so : ListedWords → List ℕ → List ℕ → Bool
 is_said_so p key value =
     if is_among p.link_keys key then is_read_so value && leads_to_own p value
+    else if bytes_eq key class_key then are_classes p.classes value
     else not (says_names key) || are_own_names p value
 
 -- and all of it stays

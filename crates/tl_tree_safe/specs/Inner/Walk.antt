@@ -14,7 +14,8 @@ use Rattle.tl_tree.specs.Asked.{end_at, name_of, node_at, text_of}
 use Rattle.tl_tree.specs.Rows.{Node, Row, a_text, an_element}
 use Rattle.tl_tree_safe.specs.Inner.Levels.{no_parts}
 use Rattle.tl_tree_safe.specs.Inner.Pass.{first_said}
-use Rattle.tl_tree_safe.specs.Kept.{cleaned, kept_tag}
+use Rattle.tl_tree_safe.specs.Characters.{cleaned}
+use Rattle.tl_tree_safe.specs.Kept.{kept_tag}
 use Rattle.tl_tree_safe.specs.Lists.{ListedWords, opaque_names}
 use Rattle.tl_tree_spec.specs.HtmlForest.{is_empty}
 use Rattle.tl_tree_spec.specs.Stays.{may_be_read}

@@ -1,5 +1,5 @@
 use Rattle.std.proofs.Common.{drop, ◌++◌, ◌≡◌}
-use Rattle.tl_tree_safe.specs.Kept.{cleaned}
+use Rattle.tl_tree_safe.specs.Characters.{cleaned}
 use Rattle.tl_tree_safe.proofs.clean.clean.Given as goal
 
 abbrev pub invariant-loop-byte : goal.invariant-loop-byte

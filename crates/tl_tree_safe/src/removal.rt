@@ -1,0 +1,42 @@
+//! What goes of a tree, and why.
+use std::fmt;
+
+/// Why an element or an attribute goes.
+#[derive(Clone, Copy, PartialEq, Eq, Debug)]
+pub enum Cause {
+    /// The tag isn't listed: what is in the element stands in its place.
+    UnlistedTag,
+    /// What is in the element is no markup of HTML, or isn't shown: it goes with all of that.
+    OpaqueTag,
+    /// The element is one of `svg` or `math`: it goes with all that is in it.
+    ForeignTag,
+    /// The tag is listed, and may not stand where it is: what is in it stands in its place.
+    MisplacedTag,
+    /// The key isn't listed.
+    UnlistedKey,
+    /// The value may not stand at its key, as a link that begins with what no link may.
+    UnlistedValue,
+}
+
+impl fmt::Display for Cause {
+    fn fmt<W: fmt::Write>(&self, f: &mut fmt::Formatter<W>) -> fmt::Result {
+        f.write_str(match self {
+            Cause::UnlistedTag => "the tag isn't listed",
+            Cause::OpaqueTag => "what is in it isn't shown as markup",
+            Cause::ForeignTag => "it is no element of HTML",
+            Cause::MisplacedTag => "the tag may not stand here",
+            Cause::UnlistedKey => "the key isn't listed",
+            Cause::UnlistedValue => "the value may not stand here",
+        })
+    }
+}
+
+/// An element that goes, or an attribute of one that stays.
+#[derive(Clone, Copy, PartialEq, Eq, Debug)]
+pub struct Removal<'t> {
+    /// The number of the element in the tree.
+    pub node: usize,
+    /// The key of the attribute; without one the element itself goes.
+    pub key: Option<&'t [u8]>,
+    pub cause: Cause,
+}
