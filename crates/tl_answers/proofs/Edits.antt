@@ -23,6 +23,7 @@ done_of_page own e page tree (Err why) of_page done = tt
 
 not_unread : (own : Edit) (e : Css) (page : List ℕ) (tree : Tree) (error : ReadError) → IsUndone own e tree page (refusal.Unread error) → ⊥
 not_unread (edit.Set key value) e page tree error undone = undone
+not_unread (edit.Rewrite key rewrite) e page tree error undone = undone
 not_unread (edit.Unset key) e page tree error undone = undone
 not_unread (edit.Rename name) e page tree error undone = undone
 not_unread (edit.Element patch) e page tree error undone = undone

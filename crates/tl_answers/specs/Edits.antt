@@ -10,6 +10,7 @@ use Rattle.tl_patch_select.specs.Reasons.{IsElementReason, IsTagReason}
 use Rattle.tl_patch_select.specs.declared.edit_error.SelectionEditError.TheVariants as element
 use Rattle.tl_patch_select.specs.declared.error.SelectionPatchError.TheVariants as tag
 use Rattle.tl_answers.specs.Pages.{IsUnread}
+use Rattle.tl_answers.specs.Rewritten.{IsRewriteReason, IsRewrittenWhere}
 use Rattle.tl_answers.specs.declared.edit.Edit.{Edit}
 use Rattle.tl_answers.specs.declared.edit.Edit.TheVariants as edit
 use Rattle.tl_answers.specs.declared.edit.Refusal.{Refusal}
@@ -18,11 +19,14 @@ use Rattle.tl_tree.specs.Pages.{IsOfPage}
 use Rattle.tl_tree.specs.declared.error.ReadError.{ReadError}
 use Rattle.tl_tree.specs.declared.error.ReadError.TheVariants.{OutOfMemory}
 use Rattle.tl_tree.specs.declared.tree.Tree.{Tree}
+use Rattle.tl_values.specs.declared.rewrite.Rewrite.{Rewrite}
 
 -- text is the page with this done where the selector holds; the places are where it was done
 abbrev pub IsDone : Edit → Css → Tree → List ℕ → List ℕ → List ℕ → Type 0
 IsDone (edit.Set key value) e tree page text places =
     IsPatchedWhere e (Set (string_bytes key) value.now) tree page text places
+IsDone (edit.Rewrite key rewrite) e tree page text places =
+    IsRewrittenWhere e rewrite (string_bytes key) tree page text places
 IsDone (edit.Unset key) e tree page text places =
     IsPatchedWhere e (Unset (string_bytes key)) tree page text places
 IsDone (edit.Rename name) e tree page text places =
@@ -38,6 +42,14 @@ IsTagRefusal e change tree page (refusal.Element error) = ⊥
 IsTagRefusal e change tree page refusal.OutOfMemory = ⊤
 IsTagRefusal e change tree page (refusal.Unread error) = ⊥
 
+abbrev pub IsRewriteRefusal : Css → Rewrite → List ℕ → Tree → List ℕ → Refusal → Type 0
+IsRewriteRefusal e rewrite key tree page (refusal.Tag tag.OutOfMemory) = ⊥
+IsRewriteRefusal e rewrite key tree page (refusal.Tag error) =
+    IsRewriteReason e rewrite key tree page error
+IsRewriteRefusal e rewrite key tree page (refusal.Element error) = ⊥
+IsRewriteRefusal e rewrite key tree page refusal.OutOfMemory = ⊤
+IsRewriteRefusal e rewrite key tree page (refusal.Unread error) = ⊥
+
 abbrev pub IsElementRefusal : Css → Patch → Tree → List ℕ → Refusal → Type 0
 IsElementRefusal e patch tree page (refusal.Tag error) = ⊥
 IsElementRefusal e patch tree page (refusal.Element element.OutOfMemory) = ⊥
@@ -49,6 +61,8 @@ IsElementRefusal e patch tree page (refusal.Unread error) = ⊥
 abbrev pub IsUndone : Edit → Css → Tree → List ℕ → Refusal → Type 0
 IsUndone (edit.Set key value) e tree page why =
     IsTagRefusal e (Set (string_bytes key) value.now) tree page why
+IsUndone (edit.Rewrite key rewrite) e tree page why =
+    IsRewriteRefusal e rewrite (string_bytes key) tree page why
 IsUndone (edit.Unset key) e tree page why = IsTagRefusal e (Unset (string_bytes key)) tree page why
 IsUndone (edit.Rename name) e tree page why =
     IsElementRefusal e (RenameElement (string_bytes name)) tree page why

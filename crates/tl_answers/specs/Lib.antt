@@ -6,4 +6,5 @@ pub mod Objects
 pub mod Tables
 pub mod Answers
 pub mod Pages
+pub mod Rewritten
 pub mod Edits

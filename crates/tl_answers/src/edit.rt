@@ -1,25 +1,34 @@
 //! Changes of tags and elements.
-ghost use Rattle.std.specs.Prelude.{IfErr, IfOk, ◌≡◌};
+ghost use Rattle.std.specs.Prelude.{IfErr, IfOk, map, ◌≡◌};
 ghost use Rattle.tl_patch_edit.specs.View.{patch_view};
 ghost use Rattle.tl_patch.specs.PatchView.{change_view};
 ghost use Rattle.tl_patch_select.specs.Edited.{IsEditedWhere};
+ghost use Rattle.tl_patch_select.specs.Nodes.{change_of};
 ghost use Rattle.tl_patch_select.specs.Patched.{IsPatchedWhere};
-ghost use Rattle.tl_answers.specs.Edits.{IsDone, IsElementRefusal, IsTagRefusal, IsUndone, refusal_of_read};
+ghost use Rattle.tl_answers.specs.Edits.{IsDone, IsElementRefusal, IsRewriteRefusal, IsTagRefusal, IsUndone, refusal_of_read};
+ghost use Rattle.tl_answers.specs.Rewritten.{IsRewrittenWhere, sets_of};
+ghost use Rattle.tl_answers.specs.declared.edit.Refusal.TheVariants.{OutOfMemory};
+ghost use Rattle.tl_values.specs.NewValues.{got};
 
-use std::alloc::Global;
+use std::alloc::{AllocError, Global};
 use tl_css::Selector;
 use tl_patch::Change;
 use tl_patch_edit::ElementPatch;
 use tl_patch_select::{
-    Patched, SelectionEditError, SelectionPatchError, edit_selected, patch_selected,
+    NodeChange, Patched, SelectionEditError, SelectionPatchError, edit_selected, patch_nodes,
+    patch_selected,
 };
 use tl_tree::{ReadError, Tree};
+use tl_tree_select::select;
+use tl_values::{NewValue, Rewrite};
 
 /// What is done where a selector holds. Keys and names are in lower case.
 #[derive(Drop)]
 pub enum Edit<'w> {
     /// The key of the tags gets this value.
     Set(String, &'w str),
+    /// It gets a value that is made of an old one.
+    Rewrite(String, Rewrite<'w>),
     /// The key goes.
     Unset(String),
     /// The elements get this name.
@@ -49,6 +58,14 @@ impl From<ReadError> for Refusal {
     }
 }
 
+impl From<AllocError> for Refusal {
+    ghost from_gives = { λ _ why. why ≡ OutOfMemory };
+
+    fn from(_: AllocError) -> Self {
+        Refusal::OutOfMemory
+    }
+}
+
 // A page with the tags changed where a selector holds.
 fn with_tags(
     alloc: Global,
@@ -66,6 +83,53 @@ fn with_tags(
         Ok(patched) => Ok(patched),
         Err(SelectionPatchError::OutOfMemory) => Err(Refusal::OutOfMemory),
         Err(error) => Err(Refusal::Tag(error)),
+    }
+}
+
+// The changes by which nodes get their values.
+fn changes_of<'a>(
+    alloc: Global,
+    key: &'a [u8],
+    values: &'a [NewValue],
+) -> Result<Vec<NodeChange<'a>>, AllocError>
+    ensures { IfOk result (λ changes. map change_of changes.items
+        ≡ sets_of key.now (map got values.now)) }
+{
+    let mut changes = Vec::with_capacity(alloc, values.len())?;
+    for new in values {
+        let value = new.value.as_slice();
+        let change = Change::Set { key, value };
+        changes.push(NodeChange {
+            number: new.number,
+            change,
+        })?;
+    }
+    Ok(changes)
+}
+
+// A page with the values of a key made of old ones where a selector holds.
+fn with_values(
+    alloc: Global,
+    page: &[u8],
+    tree: &Tree<'_>,
+    selector: &Selector,
+    key: &[u8],
+    rewrite: &Rewrite<'_>,
+) -> Result<Patched, Refusal>
+    ensures done { IfOk result (λ p. IsRewrittenWhere selector.now rewrite.now key.now
+        tree.now page.now p.bytes.items p.places.items) }
+    ensures told { IfErr result
+        (IsRewriteRefusal selector.now rewrite.now key.now tree.now page.now) }
+{
+    let numbers = select(alloc, tree, selector)?;
+    let values = rewrite.values(alloc, tree, numbers.as_slice(), key)?;
+    let changes = changes_of(alloc, key, values.as_slice())?;
+    match patch_nodes(alloc, page, tree, changes.as_slice()) {
+        Ok(patched) => Ok(patched),
+        Err(why) => match why {
+            SelectionPatchError::OutOfMemory => Err(Refusal::OutOfMemory),
+            _ => Err(Refusal::Tag(why)),
+        },
     }
 }
 
@@ -109,6 +173,9 @@ impl Edit<'_> {
                     value: value.as_bytes(),
                 };
                 with_tags(alloc, page, tree, selector, change)
+            }
+            Edit::Rewrite(key, rewrite) => {
+                with_values(alloc, page, tree, selector, key.as_bytes(), rewrite)
             }
             Edit::Unset(key) => {
                 let change = Change::Unset {

@@ -1,5 +1,6 @@
 pub mod Bounded
 pub mod Crossing
+pub mod Ordered
 pub mod Places
 pub mod Reasons
 pub mod Sources

@@ -16,8 +16,9 @@ use Rattle.tl_patch_spec.specs.Patches.{Patch}
 use Rattle.tl_patch_spec.specs.TagChanges.{TagChange}
 use Rattle.tl_patch_spec.specs.Together.{at_each}
 use Rattle.tl_patch_select.specs.Errors.{error_of_edit, error_of_patch}
+use Rattle.tl_patch_select.specs.Nodes.{AreInOrder, ChangeOf, all_placed}
 use Rattle.tl_patch_select.specs.Patched.{changes_at}
-use Rattle.tl_patch_select.specs.Reasons.{IsElementReason, IsTagReason}
+use Rattle.tl_patch_select.specs.Reasons.{AreNodesReason, IsElementReason, IsTagReason}
 use Rattle.tl_patch_select.specs.Selected.{AreSelected}
 use Rattle.tl_patch_select.specs.Whole.{IsNotWhole, IsOneCrossed, IsWhole}
 use Rattle.tl_patch_select.specs.declared.whole.Crossed.{Crossed}
@@ -35,6 +36,12 @@ pub tag_reason_of_patch : {T : Type 0} (e : Css) (change : TagChange) (tree : Tr
 tag_reason_of_patch e change tree page places r (page_error.NoStartTag p) selected is says = record { places = places; selected = selected; refused = says.no_start_tag p is }
 tag_reason_of_patch e change tree page places r (page_error.NotWritten p) selected is says = record { places = places; selected = selected; refused = says.not_written p is }
 tag_reason_of_patch e change tree page places r page_error.OutOfMemory selected is says = tt
+
+pub nodes_reason_of_patch : {T : Type 0} (asked : List ChangeOf) (tree : Tree) (page : List ℕ) (sorted : List PlacedChange) (r : Result T PatchError) (error : PatchError) → AreInOrder (all_placed tree asked) sorted → r ≡ Err error →
+    SaysOfTags page sorted r → AreNodesReason asked tree page (error_of_patch error)
+nodes_reason_of_patch asked tree page sorted r (page_error.NoStartTag p) order is says = record { sorted = sorted; in_order = order; refused = says.no_start_tag p is }
+nodes_reason_of_patch asked tree page sorted r (page_error.NotWritten p) order is says = record { sorted = sorted; in_order = order; refused = says.not_written p is }
+nodes_reason_of_patch asked tree page sorted r page_error.OutOfMemory order is says = tt
 
 -- what the call that changes elements says of each error
 pub record SaysOfElements {T : Type 0} (page : List ℕ) (patches : List (ℕ × Patch)) (r : Result T EditError) : Type 0 where

@@ -5,6 +5,7 @@ use Rattle.tl_patch.specs.declared.error.PatchError.TheVariants as patch
 use Rattle.tl_patch_spec.specs.Patches.{Patch}
 use Rattle.tl_patch_spec.specs.TagChanges.{TagChange}
 use Rattle.tl_patch_select.specs.Edited.{IsRefusedWhere}
+use Rattle.tl_patch_select.specs.Nodes.{AreNodesRefused, ChangeOf, lacking_at}
 use Rattle.tl_patch_select.specs.Patched.{IsChangeRefusedWhere, missing_tag}
 use Rattle.tl_patch_select.specs.Selected.{IsUntagged}
 use Rattle.tl_patch_select.specs.Whole.{IsNotWhole}
@@ -38,3 +39,13 @@ IsElementReason e patch tree page (element.Refused error) = IsRefusedWhere e pat
 IsElementReason e patch tree page (element.Untagged at) = IsUntagged e tree (length page) at
 IsElementReason e patch tree page (element.NotWhole place at) = IsNotWhole e tree page place at
 IsElementReason e patch tree page element.OutOfMemory = ⊤
+
+-- why the tags of nodes don't get these changes
+abbrev pub AreNodesReason : List ChangeOf → Tree → List ℕ → SelectionPatchError → Type 0
+AreNodesReason changes tree page (tag.Untagged at) =
+    lacking_at tree (length page) changes ≡ Some at
+AreNodesReason changes tree page (tag.NoStartTag place) =
+    AreNodesRefused changes tree page (patch.NoStartTag place)
+AreNodesReason changes tree page (tag.NotWritten place) =
+    AreNodesRefused changes tree page (patch.NotWritten place)
+AreNodesReason changes tree page tag.OutOfMemory = ⊤

@@ -21,7 +21,7 @@ pub(crate) fn place_of(tree: &Tree<'_>, number: usize) -> Option<usize>
 }
 
 // Where in a page of such a length the first node from a number on comes from that has a place.
-fn first_place(tree: &Tree<'_>, number: usize, page_len: usize) -> usize
+pub(crate) fn first_place(tree: &Tree<'_>, number: usize, page_len: usize) -> usize
     ensures { result
         ≡ first_place tree.now page_len number (length (rows_in tree.now) - number) }
 {
@@ -70,6 +70,19 @@ fn put_in_order(places: &mut Vec<usize>)
     places.dedup();
 }
 
+/// Where elements begin that have a place, in order, each place once.
+pub(crate) fn places_in_order(
+    alloc: Global,
+    tree: &Tree<'_>,
+    numbers: &[usize],
+) -> Result<Vec<usize>, AllocError>
+    ensures { IfOk result (λ places. ArePlacesOf tree.now numbers.now places.items) }
+{
+    let mut places = places_of(alloc, tree, numbers)?;
+    put_in_order(&mut places);
+    Ok(places)
+}
+
 /// The elements of a tree where a selector holds, and the bytes of the page at which their start
 /// tags begin, in order.
 #[derive(Drop)]
@@ -91,8 +104,7 @@ impl Selected {
             ArePlacesOf tree.now own.numbers.items own.places.items) }
     {
         let numbers = select(alloc, tree, selector)?;
-        let mut places = places_of(alloc, tree, numbers.as_slice())?;
-        put_in_order(&mut places);
+        let places = places_in_order(alloc, tree, numbers.as_slice())?;
         Ok(Selected { numbers, places })
     }
 

@@ -100,9 +100,7 @@ impl<'p> Tree<'p> {
         ensures { result ≡ words_of (unwrap_or
             (value_of (codes "class") (attributes_at (rows_in self.now) number)) []) }
     {
-        Words {
-            left: self.value(number, b"class").unwrap_or(b""),
-        }
+        Words::of(self.value(number, b"class").unwrap_or(b""))
     }
 }
 

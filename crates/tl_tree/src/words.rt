@@ -18,6 +18,18 @@ impl<'t> Model for Words<'t> {
     ghost view = { λ w. words_of w.left.now };
 }
 
+impl<'t> Words<'t> {
+    ghost use Rattle.std.specs.Prelude.{◌≡◌};
+    ghost use Rattle.tl_tree.specs.Below.{words_of};
+
+    /// The words of a value.
+    pub fn of(value: &'t [u8]) -> Words<'t>
+        ensures { result ≡ words_of value.now }
+    {
+        Words { left: value }
+    }
+}
+
 ghost use Rattle.std.specs.Char.{is_ascii_whitespace};
 ghost use Rattle.std.specs.List.{prefix_len};
 ghost use Rattle.std.specs.Prelude.{not, ◌≡◌};

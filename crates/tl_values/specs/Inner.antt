@@ -1,0 +1,2 @@
+-- What the proofs and private functions of this crate cite, and no public clause.
+pub mod Places

@@ -1,0 +1,31 @@
+-- What a rewrite makes of the values of an element.
+use Rattle.std.specs.Option.{option_map, unwrap_or}
+use Rattle.std.specs.Prelude.{List, Option, Some, [], string_bytes, ℕ, ◌++◌}
+use Rattle.tl_dom_spec.specs.Tags as dom
+use Rattle.tl_values.specs.Keys.{value_at}
+use Rattle.tl_values.specs.Patterns.{replaced_by_pattern}
+use Rattle.tl_values.specs.Values.{replaced}
+use Rattle.tl_values.specs.Words.{with_word, without_word}
+use Rattle.tl_values.specs.declared.rewrite.Rewrite.{Rewrite}
+use Rattle.tl_values.specs.declared.rewrite.Rewrite.TheVariants.{AddWord, CopyOf, Pattern, Prefix, RemoveWord, Replace, Suffix}
+
+-- what is made of a value
+abbrev pub made_of : Rewrite → List ℕ → List ℕ
+made_of (Prefix text) value = text.now ++ value
+made_of (Suffix text) value = value ++ text.now
+made_of (AddWord word) value = with_word word.now value
+made_of (RemoveWord word) value = without_word word.now value
+made_of (Replace sought put) value = replaced sought.now put.now value
+made_of (Pattern pattern) value = replaced_by_pattern pattern value
+made_of (CopyOf key) value = value
+
+-- the value of which that of a key is made: the one that stands there, if one does; of a word more
+-- an empty one where none stands, of a copy that of the other key
+abbrev pub source_of : Rewrite → List ℕ → List dom.Attribute → Option (List ℕ)
+source_of (AddWord word) key own = Some (unwrap_or (value_at key own) [])
+source_of (CopyOf other) key own = value_at (string_bytes other) own
+source_of _ key own = value_at key own
+
+-- the value that a key gets in a tag with these attributes, if it gets one
+abbrev pub new_value : Rewrite → List ℕ → List dom.Attribute → Option (List ℕ)
+new_value rewrite key own = option_map (made_of rewrite) (source_of rewrite key own)
