@@ -53,6 +53,106 @@ What would change is told by file, line and column.
   $ tl set --dry-run i k v page
   [1]
 
+Values made of old ones: each other byte stays, and a tag whose value stays is as it was. No key is put where none is, but by --add-word and --from.
+
+  $ printf '<A HREF=/a?x=1&amp;y>x</A>\n<a href="http://b" >y</a><a>z\n' >links
+  $ tl set a href --prefix 'https://c' links
+  <A HREF="https://c/a?x=1&amp;y">x</A>
+  <a href="https://chttp://b" >y</a><a>z
+  $ tl set a href --replace '^http:' https: <links
+  <A HREF=/a?x=1&amp;y>x</A>
+  <a href="https://b" >y</a><a>z
+  $ tl set a href --replace '[?](\w)=(\d)' '#$2$1' links
+  <A HREF="/a#1x&amp;y">x</A>
+  <a href="http://b" >y</a><a>z
+  $ tl set a href --literal --replace '?x' '$1' links
+  <A HREF="/a$1=1&amp;y">x</A>
+  <a href="http://b" >y</a><a>z
+  $ tl set a href --suffix '&' links
+  <A HREF="/a?x=1&amp;y&amp;">x</A>
+  <a href="http://b&amp;" >y</a><a>z
+  $ tl set a title --from HREF links
+  <A title="/a?x=1&amp;y" HREF=/a?x=1&amp;y>x</A>
+  <a title="http://b" href="http://b" >y</a><a>z
+  $ tl set a class --add-word out links
+  <A class="out" HREF=/a?x=1&amp;y>x</A>
+  <a class="out" href="http://b" >y</a><a class="out">z
+  $ printf '<p class="a b"><p class=" b  c"><p class=bb><p>' | tl set p class --add-word b
+  <p class="a b"><p class=" b  c"><p class="bb b"><p class="b"> (no-eol)
+  $ printf '<p class="a b"><p class=" b  c"><p class=b><p>' | tl set p class --remove-word b
+  <p class="a"><p class="c"><p class=""><p> (no-eol)
+
+  $ printf '<a href="http://a.org/?p=1&amp;q">x</a><A HREF=/b CLASS=k>y</A>' >links.html
+  $ tl set a href --replace '^http:' https: links.html
+  <a href="https://a.org/?p=1&amp;q">x</a><A HREF=/b CLASS=k>y</A> (no-eol)
+  $ tl set '[href^="/"]' href --prefix https://b.org links.html
+  <a href="http://a.org/?p=1&amp;q">x</a><A HREF="https://b.org/b" CLASS=k>y</A> (no-eol)
+  $ tl set a class --add-word out links.html
+  <a class="out" href="http://a.org/?p=1&amp;q">x</a><A HREF=/b CLASS="k out">y</A> (no-eol)
+
+Keys are those of the tag, in any case, in elements of SVG too.
+
+  $ printf '<svg viewBox="0 0 1 1"><use xlink:href="#a" Href=b /></svg>' >icon
+  $ tl set svg VIEWBOX --replace ' 1' ' 2' icon
+  <svg viewBox="0 0 2 2"><use xlink:href="#a" Href=b /></svg> (no-eol)
+  $ tl set use xlink:href --prefix icons.svg icon
+  <svg viewBox="0 0 1 1"><use xlink:href="icons.svg#a" Href=b /></svg> (no-eol)
+  $ tl set use href --from xlink:href icon
+  <svg viewBox="0 0 1 1"><use xlink:href="#a" Href="#a" /></svg> (no-eol)
+
+What changes is told; a file whose bytes stay isn't written, and where nothing changes the status is 1.
+
+  $ tl set --dry-run a href --replace '^http:' https: links
+  links:2:1
+  $ tl set -i a href --replace '^http:' https: links
+  $ cat links
+  <A HREF=/a?x=1&amp;y>x</A>
+  <a href="https://b" >y</a><a>z
+  $ touch -d 2000-01-01 links
+  $ tl set -i a href --replace '^http:' https: links
+  [1]
+  $ tl set -i '[href^=https]' href https://b links
+  $ date -r links +%Y
+  2000
+  $ printf '<b class=x><p>1</b>2' | tl set b class --suffix y
+  <b class="xy"><p>1</b>2 (no-eol)
+  $ printf '<table><tr class=a>' | tl set tbody class --add-word b
+  tl: -: the element that is put in at byte 7 has no tag (err)
+  [2]
+  $ printf '<table><tr class=a>' | tl set tbody class --suffix b
+  <table><tr class=a> (no-eol)
+  [1]
+
+One option says how, and none stands beside a value that is said: the first word behind the key is a page then.
+
+  $ tl set a href
+  tl: no value: say VALUE, or an option that makes it (err)
+  [2]
+  $ tl set a href --prefix x --suffix y links 2>&1 | head -1
+  error: the argument '--prefix <TEXT>' cannot be used with '--suffix <TEXT>'
+  $ tl set a href --literal links 2>&1 | head -1
+  error: the following required arguments were not provided:
+  $ tl set a class --add-word 'a b' links
+  tl: no word of a value: 'a b' (err)
+  [2]
+  $ tl set a class --remove-word '' links
+  tl: no word of a value: '' (err)
+  [2]
+  $ tl set a href --replace '(' x links
+  tl: no regular expression: (: regex parse error at 0..1: unclosed group (err)
+  [2]
+  $ tl set a href --literal --replace '' x links
+  tl: no text to be replaced: an empty word (err)
+  [2]
+  $ tl set a title --from 'a b' links
+  tl: no key: a b (err)
+  [2]
+  $ tl set -i a href --prefix x
+  tl: standard input has no file to be written (err)
+  [2]
+  $ tl set a href --prefix x links - <links | wc -l
+  4
+
 In their files: each is replaced at once, keeps its mode, and is not touched where nothing is found.
 
   $ chmod 640 page
@@ -514,6 +614,9 @@ What is refused.
   <meta charset=latin1><p k="e">a (no-eol)
   $ printf '<meta charset=latin1><p>è' | tl set p k é
   <meta charset=latin1><p k="é">è (no-eol)
+  $ printf '<meta charset=iso-2022-jp><p>a' | tl set p k e
+  tl: -: ISO-2022-JP is not changed; iconv -f ISO-2022-JP makes UTF-8 of it (err)
+  [2]
   $ printf '<meta charset=utf-8><p>a' | tl set p k é
   <meta charset=utf-8><p k="é">a (no-eol)
   $ tl set a 'k=' v page

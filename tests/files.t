@@ -28,7 +28,7 @@ The mode stays whole, also where setting an owner takes bits of it away.
   $ tl set -i p k v bits
   $ stat -c %a bits
   6755
-  $ tl set --backup .old p k v bits
+  $ tl set --backup .old p k w bits
   $ stat -c %a bits bits.old
   6755
   6755

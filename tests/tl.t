@@ -691,8 +691,12 @@ Their lists.
   <a>a</a><a href="/x" title="&lt;b&gt;">b</a> (no-eol)
   $ printf '<a data-x="javascript:x">a</a><a data-x="/y">b</a>' | tl sanitize --keys data-x --link-keys data-x
   <a>a</a><a data-x="/y">b</a> (no-eol)
-  $ printf '<p class=user-x>a</p><p class=site-x>b</p>' | tl sanitize --prefix site-
-  <p>a</p><p class="site-x">b</p> (no-eol)
+  $ printf '<p id=x>a</p><p id=site-x>b</p>' | tl sanitize --prefix site-
+  <p id="site-x">a</p><p id="site-x">b</p> (no-eol)
+  $ printf '<code class="hljs language-c++ x">a</code><p class=x>b</p>' | tl sanitize
+  <code class="language-c++">a</code><p>b</p> (no-eol)
+  $ printf '<code class="hljs language-c++ x">a</code><p class=x>b</p>' | tl sanitize --classes x,hl*
+  <code class="hljs x">a</code><p class="x">b</p> (no-eol)
   $ tl sanitize a.html --tags b
   a (no-eol)
   $ printf '<p title=t>x' | tl sanitize --tags p
@@ -702,33 +706,38 @@ Their lists.
   --keys alt,cite,class,datetime,dir,height,href,id,lang,src,start,title,width
   --link-keys cite,href,src
   --links https://,http://,mailto:,/,#
+  --classes language-*
   --prefix user-
   $ tl sanitize --policy --tags b,i
   --tags b,i
   --keys alt,cite,class,datetime,dir,height,href,id,lang,src,start,title,width
   --link-keys cite,href,src
   --links https://,http://,mailto:,/,#
+  --classes language-*
   --prefix user-
   $ tl sanitize --policy a.html --tags b,i none
   --tags b,i
   --keys alt,cite,class,datetime,dir,height,href,id,lang,src,start,title,width
   --link-keys cite,href,src
   --links https://,http://,mailto:,/,#
+  --classes language-*
   --prefix user-
   $ tl sanitize --policy --tags ''
   --tags
   --keys alt,cite,class,datetime,dir,height,href,id,lang,src,start,title,width
   --link-keys cite,href,src
   --links https://,http://,mailto:,/,#
+  --classes language-*
   --prefix user-
   $ tl sanitize --policy --tags script
   tl: no policy may list the tag `script`: what stands in it is no markup of HTML (err)
   [2]
-  $ tl sanitize --policy --tags p --keys title --link-keys cite --links /x --prefix z-
+  $ tl sanitize --policy --tags p --keys title --link-keys cite --links /x --classes +hljs --prefix z-
   --tags p
   --keys title
   --link-keys cite
   --links /x
+  --classes language-*,hljs
   --prefix z-
   $ tl sanitize --policy --documents
   --tags article,aside,caption,col,colgroup,footer,header,main,nav,section,table,tbody,td,tfoot,th,thead,tr,a,abbr,b,bdi,bdo,blockquote,br,cite,code,dd,del,details,dfn,div,dl,dt,em,figcaption,figure,h1,h2,h3,h4,h5,h6,hr,i,img,ins,kbd,li,mark,ol,p,pre,q,s,samp,small,span,strong,sub,summary,sup,time,u,ul,var,wbr
@@ -736,19 +745,22 @@ Their lists.
   --link-keys cite,href,src
   --links https://,http://,mailto:,/,#
   --relative-links
+  --classes language-*
   --prefix user-
   $ tl sanitize --policy --comments --tags +img,-b,i --links=-http://,tel:,mailto: --link-keys +src
   --tags a,blockquote,br,code,del,em,i,li,ol,p,pre,q,s,strong,sub,sup,u,ul,img
   --keys cite,dir,href,lang,title
   --link-keys cite,href,src
   --links https://,tel:,mailto:
+  --classes
   --prefix user-
-  $ tl sanitize --policy --documents --tags p --keys title --prefix z-
+  $ tl sanitize --policy --documents --tags p --keys title --classes=-language-*,a --prefix z-
   --tags p
   --keys title
   --link-keys cite,href,src
   --links https://,http://,mailto:,/,#
   --relative-links
+  --classes a
   --prefix z-
 
 Policies for other pages, and links beside the page.
@@ -770,6 +782,7 @@ Policies for other pages, and links beside the page.
   --keys cite,dir,href,lang,title
   --link-keys cite,href
   --links https://,http://
+  --classes
   --prefix user-
   $ tl sanitize --relative-links --tags b --policy
   --tags b
@@ -777,6 +790,7 @@ Policies for other pages, and links beside the page.
   --link-keys cite,href,src
   --links https://,http://,mailto:,/,#
   --relative-links
+  --classes language-*
   --prefix user-
   $ printf '<a rel=x href="/y">a</a><a href="z">b</a><q cite="/z">c</q>' | tl sanitize --nofollow-links
   <a rel="nofollow noopener" href="/y">a</a><a>b</a><q cite="/z">c</q> (no-eol)
@@ -786,6 +800,7 @@ Policies for other pages, and links beside the page.
   --link-keys cite,href
   --links https://,http://
   --nofollow-links
+  --classes
   --prefix user-
   $ tl sanitize --nofollow-links --keys rel,href --link-keys href,rel
   tl: no policy may mark links at `rel`: it is no listed key, or a link key (err)
@@ -819,6 +834,9 @@ Words that no policy may list: the first one is named, and no page is made safe.
   [2]
   $ tl sanitize --links http
   tl: no policy may let links begin with `http`: it is no scheme with its `:`, and no `/`, `#`, `?` or `.` stands first (err)
+  [2]
+  $ tl sanitize --classes 'hljs,language-*,*-x'
+  tl: no pattern of classes: `*-x`: a pattern is a word without spaces and `"`, and a `*` stands at its end alone (err)
   [2]
   $ tl sanitize --prefix 1
   tl: no prefix of names: `1`: a prefix is a letter of a-z, and then letters and `-` (err)
@@ -919,7 +937,7 @@ Help names each command and each option, and words the lists.
   Usage: tl table [OPTIONS] [FILE]...
   Usage: tl print [OPTIONS] [FILE]...
   Usage: tl outline [OPTIONS] [FILE]...
-  Usage: tl set [OPTIONS] <SELECTOR> <KEY> <VALUE> [FILE]...
+  Usage: tl set [OPTIONS] <SELECTOR> <KEY> [VALUE] [FILE]...
   Usage: tl unset [OPTIONS] <SELECTOR> <KEY> [FILE]...
   Usage: tl rename [OPTIONS] <SELECTOR> <NAME> [FILE]...
   Usage: tl remove [OPTIONS] <SELECTOR> [FILE]...
@@ -949,6 +967,7 @@ Help names each command and each option, and words the lists.
   --text
   --tree
   $ tl sanitize --help >help && grep -oE -e '--[a-z-]+' help | sort -u
+  --classes
   --comments
   --documents
   --encoding
@@ -964,11 +983,18 @@ Help names each command and each option, and words the lists.
   --strict
   --tags
   $ for command in set unset rename remove unwrap replace fill prepend append before after; do tl $command --help; done | grep -oE -e '--[a-z-]+' | sort -u
+  --add-word
   --backup
   --dry-run
+  --from
   --help
   --html
   --in-place
+  --literal
+  --prefix
+  --remove-word
+  --replace
+  --suffix
   $ grep -o '^WORDS have commas between them' help
   WORDS have commas between them
   $ tl --help | grep -o '^It ends with 0: all is done'

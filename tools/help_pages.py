@@ -6,15 +6,19 @@ from .running import must
 # What stands in front of each completion, as a comment.
 MADE = "Made by ./x manual of what tl --help says."
 # The labels that --encoding takes, as docs/COMMANDS.md has them.
-LABELS = ("utf-8", "windows-1252", "latin1", "iso-8859-2", "iso-8859-15", "windows-1250", "windows-1251", "koi8-r", "utf-16le", "utf-16be")
+LABELS = (
+    "auto", "utf-8", "windows-1252", "latin1", "iso-8859-2", "iso-8859-15", "windows-1250", "windows-1251", "koi8-r",
+    "gbk", "big5", "euc-jp", "shift_jis", "euc-kr", "utf-16le", "utf-16be",
+)
 
 
 class Option:
     """An option: `-a`, `--attribute`, `KEY` and what it does; what it lacks is empty."""
 
     def __init__(self, line):
-        found = re.fullmatch(r"\s+(?:(-\S), )?(--[a-z-]+)(?: <([A-Z]+)>)?  +(.*)", line)
-        self.short, self.long, self.value, self.says = (it or "" for it in found.groups())
+        found = re.fullmatch(r"\s+(?:(-\S), )?(--[a-z-]+)((?: <[A-Z]+>)*)  +(.*)", line)
+        self.short, self.long, value, self.says = (it or "" for it in found.groups())
+        self.value = re.sub("[<>]", "", value).strip()
 
     def names(self):
         return [it for it in (self.short, self.long) if it]

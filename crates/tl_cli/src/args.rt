@@ -32,6 +32,16 @@ pub enum Writing {
     Nothing,
 }
 
+/// What tells what pages are in, behind their byte-order marks.
+#[derive(Clone, Copy)]
+pub enum Telling {
+    /// What they say.
+    Pages,
+    /// That they are UTF-8, and else what they say.
+    Bytes,
+    Label(Encoding),
+}
+
 /// The pages, and how what is made of them is written.
 #[derive(Drop)]
 pub struct Pages<'w> {
@@ -43,8 +53,8 @@ pub struct Pages<'w> {
     pub has_names: bool,
     /// What is written of them.
     pub writing: Writing,
-    /// What they are in, if it is said.
-    pub encoding: Option<Encoding>,
+    /// What tells what they are in.
+    pub encoding: Telling,
     /// Whether one with bytes that are wrong is refused.
     pub is_strict: bool,
     pub terminal: Terminal,
@@ -97,11 +107,19 @@ pub enum UsageError<'w> {
     NoKey(&'w str),
     /// One that can be written as no name of a tag.
     NoName(&'w str),
+    /// No value is said, nor how it is made.
+    NoValue,
+    /// A text that is no word of a value.
+    NoWord(&'w str),
+    /// The text that is to be replaced is empty.
+    NoLiteral,
+    /// A text that is no regular expression, and why.
+    NoRegex(regex::Error, &'w str),
     /// Standard input is to be changed in its file.
     NoFile,
     /// The suffix of a backup is empty.
     NoSuffix,
-    /// A label of no encoding that is read.
+    /// A label of no encoding.
     NoEncoding(&'w str),
     /// A word that is no number of nodes.
     NoNumber(&'w str),
@@ -249,16 +267,18 @@ fn table_number<'w>(matches: &ArgMatches<'w>) -> Result<usize, UsageError<'w>> {
     }
 }
 
-// The values of an argument that may have several.
-fn values<'w>(
-    alloc: Global,
-    matches: &ArgMatches<'w>,
-    name: &str,
-) -> Result<Vec<&'w str>, AllocError> {
-    match matches.get_strs(name) {
-        Some(values) => Vec::from_slice(alloc, values),
-        None => Ok(Vec::new(alloc)),
+// The files that are said. The first word is one where an option makes the value.
+fn files<'w>(alloc: Global, matches: &ArgMatches<'w>) -> Result<Vec<&'w str>, AllocError> {
+    let mut files = Vec::new(alloc);
+    if edit_words::is_rewrite(matches) {
+        if let Some(first) = matches.get_str("VALUE") {
+            files.push(first)?;
+        }
     }
+    if let Some(more) = matches.get_strs("FILE") {
+        files.extend_from_slice(more)?;
+    }
+    Ok(files)
 }
 
 // The lists that count where none are said.
@@ -282,6 +302,7 @@ fn lists<'w>(matches: &ArgMatches<'w>) -> ListTexts<'w> {
         link_prefixes: matches.get_str("links"),
         relative_links: matches.get_flag("relative-links"),
         nofollow_links: matches.get_flag("nofollow-links"),
+        classes: matches.get_str("classes"),
         id_prefix: matches.get_str("prefix"),
     }
 }
@@ -291,6 +312,7 @@ fn action_of<'w>(
     alloc: Global,
     verb: Verb,
     matches: &ArgMatches<'w>,
+    files: &[&str],
 ) -> Result<Action<'w>, UsageError<'w>> {
     let question = match verb {
         Verb::Select => return Ok(Action::Select(selected(alloc, matches)?)),
@@ -302,15 +324,15 @@ fn action_of<'w>(
         Verb::Outline => Question::Outline(matches.get_flag("number")),
         Verb::Set => {
             let edit = edit_words::set(alloc, matches)?;
-            return Ok(Action::Patch(patching(alloc, edit, matches)?));
+            return Ok(Action::Patch(patching(alloc, edit, matches, files)?));
         }
         Verb::Unset => {
             let edit = edit_words::unset(alloc, matches)?;
-            return Ok(Action::Patch(patching(alloc, edit, matches)?));
+            return Ok(Action::Patch(patching(alloc, edit, matches, files)?));
         }
         Verb::Element(own) => {
             let edit = edit_words::element(alloc, own, matches)?;
-            return Ok(Action::Patch(patching(alloc, edit, matches)?));
+            return Ok(Action::Patch(patching(alloc, edit, matches, files)?));
         }
         Verb::Sanitize if matches.get_flag("policy") => return Ok(Action::Policy(lists(matches))),
         Verb::Sanitize => return Ok(Action::Safe(lists(matches))),
@@ -318,29 +340,32 @@ fn action_of<'w>(
     Ok(Action::Task(Task::Ask(question)))
 }
 
-// What pages are in, if it is said.
-fn encoding<'w>(matches: &ArgMatches<'w>) -> Result<Option<Encoding>, UsageError<'w>> {
+// What tells what pages are in.
+fn told_encoding<'w>(matches: &ArgMatches<'w>) -> Result<Telling, UsageError<'w>> {
     let Some(label) = matches.get_str("encoding") else {
-        return Ok(None);
+        return Ok(Telling::Pages);
     };
+    if label == "auto" {
+        return Ok(Telling::Bytes);
+    }
     match Encoding::from_label(label.as_bytes()) {
-        Some(encoding) => Ok(Some(encoding)),
+        Some(encoding) => Ok(Telling::Label(encoding)),
         None => Err(UsageError::NoEncoding(label)),
     }
 }
 
 // The pages of a command.
 fn pages_of<'w>(
-    alloc: Global,
     matches: &ArgMatches<'w>,
+    files: Vec<&'w str>,
     terminal: Terminal,
 ) -> Result<Pages<'w>, UsageError<'w>> {
     Ok(Pages {
-        files: values(alloc, matches, "FILE")?,
+        files,
         ends_with_zero: matches.get_flag("null"),
         has_names: !matches.get_flag("no-name"),
         writing: writing_of(matches),
-        encoding: encoding(matches)?,
+        encoding: told_encoding(matches)?,
         is_strict: matches.get_flag("strict"),
         terminal,
     })
@@ -359,8 +384,9 @@ pub fn read<'w>(
     let Some(verb) = Verb::from_word(word) else {
         return Err(UsageError::NoCommand);
     };
+    let files = files(alloc, own)?;
     Ok(Args {
-        action: action_of(alloc, verb, own)?,
-        pages: pages_of(alloc, own, terminal)?,
+        action: action_of(alloc, verb, own, files.as_slice())?,
+        pages: pages_of(own, files, terminal)?,
     })
 }

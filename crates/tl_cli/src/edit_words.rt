@@ -3,20 +3,101 @@
 use crate::args::{UsageError, selector};
 use crate::patching::{Patching, Target};
 use clap::ArgMatches;
+use regex::Error;
 use std::alloc::Global;
 use tl_answers::Edit;
 use tl_commands::ElementVerb;
 use tl_patch::{is_key, is_name};
 use tl_patch_edit::{Content, ElementPatch};
+use tl_values::{Pattern, Rewrite};
 
-// The key that is said, in lower case.
-fn key<'w>(alloc: Global, matches: &ArgMatches<'w>) -> Result<String, UsageError<'w>> {
-    let said = matches.get_str("KEY").unwrap_or("");
+// The key that a word says, in lower case.
+fn key_at<'w>(
+    alloc: Global,
+    matches: &ArgMatches<'w>,
+    word: &str,
+) -> Result<String, UsageError<'w>> {
+    let said = matches.get_str(word).unwrap_or("");
     let key = said.to_ascii_lowercase(alloc)?;
     if !is_key(key.as_bytes()) {
         return Err(UsageError::NoKey(said));
     }
     Ok(key)
+}
+
+// One word of a value.
+fn word(said: &str) -> Result<&str, UsageError<'_>> {
+    if said.is_empty() || said.bytes().any(|byte| byte.is_ascii_whitespace()) {
+        return Err(UsageError::NoWord(said));
+    }
+    Ok(said)
+}
+
+// The pattern of these texts.
+fn pattern<'w>(
+    alloc: Global,
+    regex: &'w str,
+    text: &'w str,
+) -> Result<Rewrite<'w>, UsageError<'w>> {
+    match Pattern::new(alloc, regex, text) {
+        Ok(pattern) => Ok(Rewrite::Pattern(pattern)),
+        Err(Error::OutOfMemory) => Err(UsageError::OutOfMemory),
+        Err(error) => Err(UsageError::NoRegex(error, regex)),
+    }
+}
+
+// What is put in the place of texts.
+fn replacement<'w>(
+    alloc: Global,
+    matches: &ArgMatches<'w>,
+) -> Result<Option<Rewrite<'w>>, UsageError<'w>> {
+    let Some([sought, put]) = matches.get_strs("replace") else {
+        return Ok(None);
+    };
+    if !matches.get_flag("literal") {
+        return Ok(Some(pattern(alloc, *sought, *put)?));
+    }
+    if sought.is_empty() {
+        return Err(UsageError::NoLiteral);
+    }
+    Ok(Some(Rewrite::Replace { sought, put }))
+}
+
+// How a value is made of an old one, if an option says that.
+fn rewrite<'w>(
+    alloc: Global,
+    matches: &ArgMatches<'w>,
+) -> Result<Option<Rewrite<'w>>, UsageError<'w>> {
+    if let Some(text) = matches.get_str("prefix") {
+        return Ok(Some(Rewrite::Prefix(text)));
+    }
+    if let Some(text) = matches.get_str("suffix") {
+        return Ok(Some(Rewrite::Suffix(text)));
+    }
+    if let Some(said) = matches.get_str("add-word") {
+        return Ok(Some(Rewrite::AddWord(word(said)?)));
+    }
+    if let Some(said) = matches.get_str("remove-word") {
+        return Ok(Some(Rewrite::RemoveWord(word(said)?)));
+    }
+    if matches.get_str("from").is_some() {
+        return Ok(Some(Rewrite::CopyOf(key_at(alloc, matches, "from")?)));
+    }
+    replacement(alloc, matches)
+}
+
+/// Whether an option says how a value is made.
+pub fn is_rewrite(matches: &ArgMatches<'_>) -> bool {
+    [
+        "prefix",
+        "suffix",
+        "add-word",
+        "remove-word",
+        "from",
+        "replace",
+    ]
+    .iter()
+    .any(|option| matches.get_strs(option).is_some())
 }
 
 // The name that is said, in lower case.
@@ -39,15 +120,21 @@ fn content<'w>(matches: &ArgMatches<'w>) -> Content<'w> {
     }
 }
 
-/// A key that gets a value.
+/// A key that gets a value, or one that is made of an old one.
 pub fn set<'w>(alloc: Global, matches: &ArgMatches<'w>) -> Result<Edit<'w>, UsageError<'w>> {
-    let value = matches.get_str("VALUE").unwrap_or("");
-    Ok(Edit::Set(key(alloc, matches)?, value))
+    let key = key_at(alloc, matches, "KEY")?;
+    if let Some(rewrite) = rewrite(alloc, matches)? {
+        return Ok(Edit::Rewrite(key, rewrite));
+    }
+    match matches.get_str("VALUE") {
+        Some(value) => Ok(Edit::Set(key, value)),
+        None => Err(UsageError::NoValue),
+    }
 }
 
 /// A key that goes.
 pub fn unset<'w>(alloc: Global, matches: &ArgMatches<'w>) -> Result<Edit<'w>, UsageError<'w>> {
-    Ok(Edit::Unset(key(alloc, matches)?))
+    Ok(Edit::Unset(key_at(alloc, matches, "KEY")?))
 }
 
 /// What is done with elements.
@@ -72,15 +159,12 @@ pub fn element<'w>(
 }
 
 // Whether a page comes from standard input.
-fn has_standard_input(matches: &ArgMatches<'_>) -> bool {
-    match matches.get_strs("FILE") {
-        Some(files) => files.is_empty() || files.contains(&"-"),
-        None => true,
-    }
+fn has_standard_input(files: &[&str]) -> bool {
+    files.is_empty() || files.contains(&"-")
 }
 
 // Where pages with changes go.
-fn target<'w>(matches: &ArgMatches<'w>) -> Result<Target<'w>, UsageError<'w>> {
+fn target<'w>(matches: &ArgMatches<'w>, files: &[&str]) -> Result<Target<'w>, UsageError<'w>> {
     if matches.get_flag("dry-run") {
         return Ok(Target::Nowhere);
     }
@@ -88,7 +172,7 @@ fn target<'w>(matches: &ArgMatches<'w>) -> Result<Target<'w>, UsageError<'w>> {
     if suffix.is_none() && !matches.get_flag("in-place") {
         return Ok(Target::Output);
     }
-    if has_standard_input(matches) {
+    if has_standard_input(files) {
         return Err(UsageError::NoFile);
     }
     if suffix == Some("") {
@@ -102,10 +186,11 @@ pub fn patching<'w>(
     alloc: Global,
     edit: Edit<'w>,
     matches: &ArgMatches<'w>,
+    files: &[&str],
 ) -> Result<Patching<'w>, UsageError<'w>> {
     Ok(Patching {
         selector: selector(alloc, matches.get_str("SELECTOR").unwrap_or(""))?,
         edit,
-        target: target(matches)?,
+        target: target(matches, files)?,
     })
 }

@@ -118,6 +118,18 @@ fn report_usage_error(rt: &HostRuntime, usage_error: &UsageError<'_>) -> Result<
         UsageError::NoName(name) => {
             let _ = eprintln!(rt; "tl: no name: {name}");
         }
+        UsageError::NoValue => {
+            let _ = eprintln!(rt; "tl: no value: say VALUE, or an option that makes it");
+        }
+        UsageError::NoWord(word) => {
+            let _ = eprintln!(rt; "tl: no word of a value: '{word}'");
+        }
+        UsageError::NoLiteral => {
+            let _ = eprintln!(rt; "tl: no text to be replaced: an empty word");
+        }
+        UsageError::NoRegex(error, text) => {
+            let _ = eprintln!(rt; "tl: no regular expression: {text}: {error}");
+        }
         UsageError::NoFile => {
             let _ = eprintln!(rt; "tl: standard input has no file to be written");
         }
@@ -128,7 +140,7 @@ fn report_usage_error(rt: &HostRuntime, usage_error: &UsageError<'_>) -> Result<
             let _ = eprintln!(rt; "tl: no number of a table: {word}");
         }
         UsageError::NoEncoding(label) => {
-            let _ = eprintln!(rt; "tl: no encoding that is read: {label}");
+            let _ = eprintln!(rt; "tl: no label of an encoding: {label}");
         }
         UsageError::NoSelector(error, text) => {
             let described = error.describe(text);

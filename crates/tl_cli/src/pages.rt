@@ -5,7 +5,7 @@ ghost use Rattle.tl_safe_fit.specs.Words.{words_of};
 ghost use Rattle.tl_cli.specs.Reports.{AreReports};
 ghost use Rattle.tl_cli.specs.declared.reports.Answer.TheVariants.{Failed};
 
-use crate::args::{Pages, Writing};
+use crate::args::{Pages, Telling, Writing};
 use crate::filename::with_prefix;
 use crate::job::Job;
 use crate::reports::{Answer, Report, Tally, status_of};
@@ -16,7 +16,7 @@ use std::io::{ErrorKind, Read, Write};
 use std::{fmt, io};
 use tl_answers::Output;
 use tl_encoding::{
-    DecodeError, Encoding, EncodingError, decode, decode_strict, encoding_marked, encoding_of,
+    DecodeError, Encoding, decode, decode_strict, encoding_by_bytes, encoding_marked, encoding_of,
 };
 use tl_page::{Failure, text};
 
@@ -135,13 +135,15 @@ fn page_output(
 }
 
 // What a page is in: what its byte-order mark says, what was said, or what it says.
-fn encoding_in<'p>(pages: &Pages<'_>, page: &'p [u8]) -> Result<Encoding, EncodingError<'p>> {
-    let Some(said) = pages.encoding else {
-        return encoding_of(page);
+fn encoding_in(pages: &Pages<'_>, page: &[u8]) -> Encoding {
+    let said = match pages.encoding {
+        Telling::Pages => return encoding_of(page),
+        Telling::Bytes => return encoding_by_bytes(page),
+        Telling::Label(said) => said,
     };
     match encoding_marked(page) {
-        Some(encoding) => Ok(encoding),
-        None => Ok(said),
+        Some(encoding) => encoding,
+        None => said,
     }
 }
 
@@ -185,8 +187,8 @@ fn no_text(rt: &HostRuntime, pages: &Pages<'_>, file: &str, error: &DecodeError)
     ensures { result ≡ Failed NotUnderstood }
 {
     match pages.encoding {
-        Some(_) => not_understood(rt, file, error),
-        None => not_understood(rt, file, &UnsaidEncoding { error }),
+        Telling::Label(_) => not_understood(rt, file, error),
+        Telling::Pages | Telling::Bytes => not_understood(rt, file, &UnsaidEncoding { error }),
     }
 }
 
@@ -262,13 +264,7 @@ fn process_bytes(
     file: &str,
     page: Vec<u8>,
 ) -> Result<Answer, Failure> {
-    let encoding = match encoding_in(pages, &page) {
-        Ok(encoding) => encoding,
-        Err(error) => {
-            pages.terminal.clear(rt);
-            return Ok(not_understood(rt, file, &error));
-        }
-    };
+    let encoding = encoding_in(pages, &page);
     let text = match text_of(rt, pages, page, encoding) {
         Ok(text) => text,
         Err(DecodeError::OutOfMemory) => return Err(Failure::OutOfMemory),

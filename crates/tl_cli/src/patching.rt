@@ -18,7 +18,7 @@ use std::fmt;
 use std::io::ErrorKind;
 use tl_answers::{Edit, Refusal, edited_page};
 use tl_css::Selector;
-use tl_encoding::{Encoding, encoding_of, encoding_said};
+use tl_encoding::{Encoding, encoding_by_bytes, encoding_said};
 use tl_page::{Failure, text};
 use tl_patch_edit::EditError;
 use tl_patch_select::{Patched, SelectionEditError};
@@ -77,10 +77,19 @@ fn write_answer(rt: &HostRuntime, is_found: bool, bytes: &[u8]) -> Answer {
     }
 }
 
-// Puts a page with changes into its file. Without one the file isn't touched.
-fn write_file(rt: &HostRuntime, file: &str, suffix: Option<&str>, patched: &Patched) -> Answer {
+// Puts a page with changes into its file. Where its bytes stay the file isn't touched.
+fn write_file(
+    rt: &HostRuntime,
+    file: &str,
+    suffix: Option<&str>,
+    page: &str,
+    patched: &Patched,
+) -> Answer {
     if patched.places.is_empty() {
         return Answer::Nothing;
+    }
+    if patched.bytes.as_slice() == page.as_bytes() {
+        return Answer::Found;
     }
     match replace(rt, file, suffix, patched.bytes.as_slice()) {
         Ok(()) => Answer::Found,
@@ -103,7 +112,7 @@ fn put(
     let is_found = !patched.places.is_empty();
     match target {
         Target::Output => Ok(write_answer(rt, is_found, patched.bytes.as_slice())),
-        Target::Files(suffix) => Ok(write_file(rt, file, *suffix, patched)),
+        Target::Files(suffix) => Ok(write_file(rt, file, *suffix, page, patched)),
         Target::Nowhere => {
             let lines = place_lines(rt.alloc(), file, page, patched.places.as_slice())?;
             Ok(write_answer(rt, is_found, lines.as_bytes()))
@@ -114,18 +123,23 @@ fn put(
 // Whether browsers would read other characters than those that were put: a page of ASCII says
 // another encoding than UTF-8, and is no more ASCII.
 fn is_misread(page: &[u8], patched: &Patched) -> bool {
-    page.is_ascii()
-        && !patched.bytes.as_slice().is_ascii()
-        && encoding_said(page) != Ok(Encoding::Utf8)
+    page.is_ascii() && !patched.bytes.as_slice().is_ascii() && encoding_said(page) != Encoding::Utf8
 }
 
 // Why a page is not changed that is UTF-8 only as far as its bytes go.
 #[derive(Clone, Copy)]
-struct DeclaresUtf16;
+struct NotChanged {
+    encoding: Encoding,
+}
 
-impl fmt::Display for DeclaresUtf16 {
+impl fmt::Display for NotChanged {
     fn fmt<W: fmt::Write>(&self, f: &mut fmt::Formatter<W>) -> fmt::Result {
-        f.write_str("UTF-16 is not changed")
+        match self.encoding {
+            Encoding::Iso2022Jp => {
+                f.write_str("ISO-2022-JP is not changed; iconv -f ISO-2022-JP makes UTF-8 of it")
+            }
+            _ => f.write_str("UTF-16 is not changed"),
+        }
     }
 }
 
@@ -149,8 +163,9 @@ fn patch_page(rt: &HostRuntime, patching: &Patching<'_>, file: &str) -> Result<A
         Ok(page) => page,
         Err(error) => return Ok(not_understood(rt, file, &error)),
     };
-    if encoding_of(page.as_bytes()) != Ok(Encoding::Utf8) {
-        return Ok(not_understood(rt, file, &DeclaresUtf16));
+    let encoding = encoding_by_bytes(page.as_bytes());
+    if encoding != Encoding::Utf8 {
+        return Ok(not_understood(rt, file, &NotChanged { encoding }));
     }
     let edit = &patching.edit;
     match edited_page(rt.alloc(), edit, &patching.selector, page.as_bytes()) {

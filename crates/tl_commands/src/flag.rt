@@ -24,7 +24,7 @@ const ENCODING: Flag = Flag {
     name: "encoding",
     short: None,
     value: Some("LABEL"),
-    help: "What the pages are in, as latin1, koi8-r or utf-16le",
+    help: "What the pages are in, as koi8-r; auto: by bytes",
     excludes: &[],
 };
 
@@ -262,7 +262,7 @@ pub static BASES: [Flag; 2] = [
 ];
 
 // The lists of a policy.
-pub static LISTS: [Flag; 5] = [
+pub static LISTS: [Flag; 6] = [
     Flag {
         name: "tags",
         short: None,
@@ -292,13 +292,75 @@ pub static LISTS: [Flag; 5] = [
         excludes: &[],
     },
     Flag {
+        name: "classes",
+        short: None,
+        value: Some("WORDS"),
+        help: "The classes that may stand, as language-*,hljs",
+        excludes: &[],
+    },
+    Flag {
         name: "prefix",
         short: None,
         value: Some("WORD"),
-        help: "What values of id, name and class begin with",
+        help: "What values of id and name begin with",
         excludes: &[],
     },
 ];
+
+// How a value is made of the one that stands there.
+pub static REWRITES: [Flag; 5] = [
+    Flag {
+        name: "prefix",
+        short: None,
+        value: Some("TEXT"),
+        help: "Its old value with TEXT in front",
+        excludes: &[],
+    },
+    Flag {
+        name: "suffix",
+        short: None,
+        value: Some("TEXT"),
+        help: "Its old value with TEXT behind",
+        excludes: &[],
+    },
+    Flag {
+        name: "add-word",
+        short: None,
+        value: Some("WORD"),
+        help: "Its old value with WORD more, as a class",
+        excludes: &[],
+    },
+    Flag {
+        name: "remove-word",
+        short: None,
+        value: Some("WORD"),
+        help: "Its old value without WORD",
+        excludes: &[],
+    },
+    Flag {
+        name: "from",
+        short: None,
+        value: Some("KEY"),
+        help: "The value of another key",
+        excludes: &[],
+    },
+];
+
+pub static REPLACE: Flag = Flag {
+    name: "replace",
+    short: None,
+    value: Some("TO"),
+    help: "Its old value with TO for each match of a regex",
+    excludes: &["prefix", "suffix", "add-word", "remove-word", "from"],
+};
+
+pub static LITERAL: Flag = Flag {
+    name: "literal",
+    short: None,
+    value: None,
+    help: "With --replace: RE and TO are plain texts",
+    excludes: &[],
+};
 
 // Whether something is found.
 pub static SEARCH: [Flag; 3] = [QUIET, NAMES, NULL];

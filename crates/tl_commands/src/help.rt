@@ -12,8 +12,8 @@ Pages are read into the tree that browsers build of them: with html, head, body
 and tbody put in, end tags that may be left out, character references, and what
 stands wrongly moved; set and its like read the tags that the page itself has.
 A page is in what its byte-order mark says, else in what --encoding says, else
-UTF-8 if it can be, else what its <meta charset> says. Bytes that stand for no
-character are read as U+FFFD, but with --strict. What is written is UTF-8.
+what its <meta charset> says, else UTF-8. Bytes that stand for no character are
+read as U+FFFD, but with --strict. What is written is UTF-8.
 
 It ends with 0: all is done; 1: nothing is found, of select, links, table, text
 --in and the commands that change where a selector holds; 2: words, a selector
@@ -76,11 +76,14 @@ alone are left out, but with -n.";
 pub const SETTINGS: &str = "\
 Example:
   tl set -i img loading lazy *.html       pictures that are loaded when seen
+  tl set -i a href --replace ^http: https: *.html
+  tl set -i 'a[href^=\"/\"]' href --prefix https://a.org *.html
+  tl set -i table class --add-word wide *.html
 
 Pages are UTF-8, and are read as browsers read them. No byte changes but in
 these tags: the value of the key, or the key. A page that can't be changed so
-stays, and is said. Where nothing is found, no file is touched, and the status
-is 1.";
+stays, and is said. A file whose bytes stay isn't touched. Where nothing is
+found, or no value that is made of an old one is another one, the status is 1.";
 
 pub const UNSETTINGS: &str = "\
 Example:

@@ -1,13 +1,13 @@
 //! The commands.
 use crate::element::ElementVerb;
 use crate::flag::{
-    BASES, DECODING, Flag, LEFT_OUT, LISTS, NO_NAME, NODE_FLAGS, NODE_NUMBERS, POLICIES, PRETTY,
-    SEARCH, SELECTION, TABLE_NUMBER, TARGETS, TEXT_FLAGS, TREE,
+    BASES, DECODING, Flag, LEFT_OUT, LISTS, LITERAL, NO_NAME, NODE_FLAGS, NODE_NUMBERS, POLICIES,
+    PRETTY, REPLACE, REWRITES, SEARCH, SELECTION, TABLE_NUMBER, TARGETS, TEXT_FLAGS, TREE,
 };
 use crate::help::{
     ABOUT, LINKS, OUTLINES, PRINTS, PROGRAM, SAFE, SELECTORS, SETTINGS, TABLES, TEXTS, UNSETTINGS,
 };
-use crate::word::{NODES, TAGS_AND_KEY, TAGS_KEY_AND_VALUE, with_words};
+use crate::word::{NODES, TAGS_AND_KEY, VALUE, with_words};
 use clap::{Arg, ArgGroup, Command};
 use std::alloc::{AllocError, Global};
 
@@ -213,7 +213,15 @@ fn with_targets<'w>(alloc: Global, command: Command<'w>) -> Result<Command<'w>, 
 }
 
 fn set<'w>(alloc: Global, command: Command<'w>) -> Result<Command<'w>, AllocError> {
-    with_targets(alloc, with_words(alloc, command, &TAGS_KEY_AND_VALUE)?)
+    let command = with_words(alloc, command, &TAGS_AND_KEY)?.arg(VALUE.argument(alloc))?;
+    let command = with_flags(alloc, command, &REWRITES)?;
+    let replace = REPLACE
+        .argument(alloc)?
+        .num_args(2)
+        .value_names(&["RE", "TO"]);
+    let literal = LITERAL.argument(alloc)?.requires_arg("replace")?;
+    let command = command.arg(replace)?.arg(literal)?;
+    with_targets(alloc, command.group(one_of(alloc, "made", &REWRITES)?)?)
 }
 
 fn unset<'w>(alloc: Global, command: Command<'w>) -> Result<Command<'w>, AllocError> {

@@ -2,7 +2,7 @@
 use clap::{Arg, Command};
 use std::alloc::{AllocError, Global};
 
-/// A word that has to be there.
+/// A word of a command.
 pub struct Word {
     pub name: &'static str,
     pub help: &'static str,
@@ -32,14 +32,11 @@ pub static NODES: [Word; 1] = [Word {
 // Those of `unset`, and of `set`.
 pub static TAGS_AND_KEY: [Word; 2] = [TAG_SELECTOR, KEY];
 
-pub static TAGS_KEY_AND_VALUE: [Word; 3] = [
-    TAG_SELECTOR,
-    KEY,
-    Word {
-        name: "VALUE",
-        help: "Its value, as characters",
-    },
-];
+// That of `set` which isn't there where an option says how the value is made.
+pub static VALUE: Word = Word {
+    name: "VALUE",
+    help: "Its value, as characters; none where an option makes it",
+};
 
 // Those of commands that change elements.
 pub static ELEMENTS: [Word; 1] = [ELEMENT_SELECTOR];
@@ -61,13 +58,13 @@ pub static ELEMENTS_AND_TEXT: [Word; 2] = [
 ];
 
 impl Word {
-    // It as an argument.
-    fn argument<'w>(&self, alloc: Global) -> Arg<'w> {
-        Arg::new(alloc, self.name).required(true).help(self.help)
+    /// It as an argument.
+    pub fn argument<'w>(&self, alloc: Global) -> Arg<'w> {
+        Arg::new(alloc, self.name).help(self.help)
     }
 }
 
-/// A command with these words.
+/// A command with these words, which have to be there.
 pub fn with_words<'w>(
     alloc: Global,
     command: Command<'w>,
@@ -75,7 +72,7 @@ pub fn with_words<'w>(
 ) -> Result<Command<'w>, AllocError> {
     let mut all = command;
     for word in words {
-        all = all.arg(word.argument(alloc))?;
+        all = all.arg(word.argument(alloc).required(true))?;
     }
     Ok(all)
 }
