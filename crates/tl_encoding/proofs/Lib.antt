@@ -1,6 +1,13 @@
+pub mod Backs
+pub mod Encoded
+pub mod Fronts
+pub mod Pointers
 pub mod Replaced
 pub mod Said
 pub mod Shorter
 pub mod Steps
+pub mod Tables
+pub mod Units
 pub mod Utf16
 pub mod Utf8
+pub mod Wellformed

@@ -3,14 +3,17 @@ pub mod Charset
 pub mod Content
 pub mod Declaration
 pub mod Decoders
+pub mod Encoders
 pub mod Encodings
 pub mod Examples
 pub mod Indexes
 pub mod Iso2022Jp
 pub mod Labels
 pub mod MultiByte
+pub mod Names
 pub mod Pairs
 pub mod Runs
+pub mod Signatures
 pub mod SingleByte
 pub mod Utf16
 pub mod Utf8

@@ -5,13 +5,16 @@ ghost use Rattle.std.specs.Prelude.{◌≡◌, [], ◌∷◌, Some, None, codes,
 ghost use Rattle.tl_encoding.specs.Attributes.{tag_end, value_at};
 ghost use Rattle.tl_encoding.specs.Content.{content_label};
 ghost use Rattle.tl_encoding.specs.Decoders.{decoded, user_defined, wrong_in};
+ghost use Rattle.tl_encoding.specs.Encoders.{encoded, reference, written};
 ghost use Rattle.tl_encoding.specs.Encodings.{encoding_in, encoding_labelled, encoding_marked};
 ghost use Rattle.tl_encoding.specs.Examples.{Declares, DeclaresNothing, Decodes, Means, Says, SaysNothing, latin_1};
+ghost use Rattle.tl_encoding.specs.Signatures.{media_of};
 ghost use Rattle.tl_encoding.specs.SingleByte.{index, of_index};
 ghost use Rattle.tl_encoding.specs.Utf8.{utf_8};
 ghost use Rattle.tl_encoding.specs.declared.encoding.ByteOrder.TheVariants.{BigEndian, LittleEndian};
 ghost use Rattle.tl_encoding.specs.declared.encoding.Encoding.TheVariants.{Iso2022Jp, MultiByte, Replacement, SingleByte, UserDefined, Utf16, Utf8};
 ghost use Rattle.tl_encoding.specs.declared.multi_byte.MultiByte.TheVariants.{Big5, EucJp, EucKr, Gb18030, Gbk, ShiftJis};
+ghost use Rattle.tl_encoding.specs.declared.signature.Media.TheVariants.{Gif, Gzip, Pdf, WebP, Zip};
 ghost use Rattle.tl_encoding.specs.declared.single_byte.SingleByte.TheVariants.{Iso8859_15, Iso8859_8I, Koi8R, Koi8U, Windows1252, Windows1253};
 
 /// Attributes ("get an attribute").
@@ -233,4 +236,32 @@ pub fn wrong_bytes()
     ensures at_the_end { utf_8 (0xE2 ∷ 0x82 ∷ []) ≡ 0xFFFD ∷ [] }
     ensures replaced { decoded Replacement (0x61 ∷ 0x62 ∷ []) ≡ encode_utf8 0xFFFD }
     ensures nothing { decoded Replacement [] ≡ [] }
+{}
+
+/// What is no page, by its first bytes.
+pub fn media()
+    ensures gzip { media_of (0x1F ∷ 0x8B ∷ 0x08 ∷ 0x00 ∷ []) ≡ Some Gzip }
+    ensures zip { media_of (0x50 ∷ 0x4B ∷ 0x03 ∷ 0x04 ∷ []) ≡ Some Zip }
+    ensures pdf { media_of (codes "%PDF-1.4") ≡ Some Pdf }
+    ensures gif { media_of (codes "GIF89a") ≡ Some Gif }
+    ensures webp { media_of (codes "RIFF1234WEBPVP8 ") ≡ Some WebP }
+    ensures sound { media_of (codes "RIFF1234WAVEfmt ") ≡ None }
+    ensures page { media_of (codes "<!doctype html>") ≡ None }
+    ensures nothing { media_of [] ≡ None }
+{}
+
+/// The bytes of characters.
+#[tactic(auto, unfolding(crate::specs::Indexes::windows_1252, crate::specs::Indexes::windows_1253))]
+pub fn encoders()
+    ensures letter { encoded (SingleByte Windows1252) (0x61 ∷ 0xE9 ∷ []) ≡ Some (0x61 ∷ 0xE9 ∷ []) }
+    ensures euro { encoded (SingleByte Windows1252) (0x20AC ∷ []) ≡ Some (0x80 ∷ []) }
+    ensures lacks { encoded (SingleByte Windows1252) (0x61 ∷ 0x141 ∷ []) ≡ None }
+    ensures wrong { encoded (SingleByte Windows1253) (0xFFFD ∷ []) ≡ None }
+    ensures unit { encoded (Utf16 LittleEndian) (0x20AC ∷ []) ≡ Some (0xAC ∷ 0x20 ∷ []) }
+    ensures pair { encoded (Utf16 BigEndian) (0x1F600 ∷ [])
+        ≡ Some (0xD8 ∷ 0x3D ∷ 0xDE ∷ 0x00 ∷ []) }
+    ensures private { encoded UserDefined (0xF7FF ∷ []) ≡ Some (0xFF ∷ []) }
+    ensures ascii { encoded (MultiByte Big5) (0x61 ∷ []) ≡ Some (0x61 ∷ []) }
+    ensures escaped { encoded Iso2022Jp (0x61 ∷ []) ≡ None }
+    ensures reference { written (SingleByte Windows1252) 0x141 ≡ reference 0x141 }
 {}

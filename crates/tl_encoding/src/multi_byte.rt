@@ -4,6 +4,7 @@ ghost use Rattle.tl_encoding.specs.MultiByte.{after, alone, alone_gb, alone_shif
 ghost use Rattle.tl_encoding.specs.Pairs.{points_of};
 ghost use Rattle.tl_encoding.specs.declared.multi_byte.Held.TheVariants.{Nothing};
 
+use crate::ascii::{ascii_len, push_ascii};
 use crate::pairs::{Points, is_from, jis0212_pair, katakana, pair};
 use std::alloc::{AllocError, Global};
 use tl_indexes::ranges_code_point;
@@ -307,9 +308,17 @@ pub(crate) fn multi_byte_text(
 {
     let mut text = String::with_capacity(alloc, bytes.len())?;
     let mut held = Held::Nothing;
-    for byte in bytes {
-        name.push_byte(&mut text, held, *byte)?;
-        held = held.after(name, *byte);
+    let mut rest = bytes;
+    while let [byte, after @ ..] = rest {
+        if held.count() == 0 && byte.is_ascii() {
+            let (run, behind) = rest.split_at(ascii_len(rest));
+            push_ascii(&mut text, run)?;
+            rest = behind;
+        } else {
+            name.push_byte(&mut text, held, *byte)?;
+            held = held.after(name, *byte);
+            rest = after;
+        }
     }
     if held.count() != 0 {
         text.push(char::REPLACEMENT_CHARACTER)?;

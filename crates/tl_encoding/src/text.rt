@@ -7,6 +7,7 @@ ghost use Rattle.tl_encoding.specs.Utf8.{utf_8};
 ghost use Rattle.tl_encoding.specs.declared.text.DecodeError.TheVariants.{NoCharacter, NoText, OutOfMemory};
 ghost use Rattle.tl_encoding.specs.declared.encoding.Encoding.TheVariants.{Utf8};
 
+use crate::ascii::{ascii_len, push_ascii};
 use crate::encoding::Encoding;
 use crate::iso_2022_jp::{iso_2022_jp_text, iso_2022_jp_wrong};
 use crate::multi_byte::{multi_byte_text, multi_byte_wrong};
@@ -43,8 +44,16 @@ fn single_byte_text(alloc: Global, index: &[char; 128], bytes: &[u8]) -> Result<
         ≡ flat_map (λ b. encode_utf8 (of_index index.now b)) bytes.now) }
 {
     let mut text = String::with_capacity(alloc, bytes.len())?;
-    for byte in bytes {
-        text.push(of_index(index, *byte))?;
+    let mut rest = bytes;
+    while let [byte, after @ ..] = rest {
+        if byte.is_ascii() {
+            let (run, behind) = rest.split_at(ascii_len(rest));
+            push_ascii(&mut text, run)?;
+            rest = behind;
+        } else {
+            text.push(of_index(index, *byte))?;
+            rest = after;
+        }
     }
     Ok(text)
 }
