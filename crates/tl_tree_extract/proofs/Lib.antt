@@ -7,10 +7,11 @@ pub mod Numbers
 pub mod Cells
 pub mod Escaped
 pub mod Lossy
-pub mod Chains
 pub mod Depths
 pub mod Slots
 pub mod Rising
 pub mod Lengths
 pub mod Formed
 pub mod Marked
+pub mod Sinks
+pub mod Standing

@@ -4,3 +4,5 @@ pub mod Open
 pub mod Depths
 pub mod Slots
 pub mod Kept
+pub mod Sinks
+pub mod Marked

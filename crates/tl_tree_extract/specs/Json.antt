@@ -196,12 +196,17 @@ abbrev pub flat_nodes : (ℕ → Option Source) → List Row → List ℕ → Li
 flat_nodes sources rows numbers =
     begin_array ∷ (flat_map (flat_tokens None sources rows) numbers ++ end_array ∷ [])
 
--- Lines
+-- Arrays and lines
 
 abbrev pub object_tokens :
     JsonForm → Option (List ℕ) → (ℕ → Option Source) → List Row → ℕ → List Token
 object_tokens Nested file sources rows n = file_tokens file sources rows n
 object_tokens Flat file sources rows n = flat_tokens file sources rows n
+
+-- an array of such objects, which say no file
+abbrev pub array_tokens : JsonForm → (ℕ → Option Source) → List Row → List ℕ → List Token
+array_tokens form sources rows numbers =
+    begin_array ∷ (flat_map (object_tokens form None sources rows) numbers ++ end_array ∷ [])
 
 -- an object, and a line feed
 abbrev pub json_line :

@@ -86,15 +86,28 @@ fn put_keys(
     Ok(())
 }
 
-// Writes the attributes of an element.
+// Writes the attributes of an element that has some.
 #[tactic(auto, unfolding(crate::specs::NodeOutline::shown_keys))]
-fn put_attributes(tree: &Tree<'_>, number: usize, out: &mut Vec<u8>) -> Result<(), AllocError>
+fn put_some(tree: &Tree<'_>, number: usize, out: &mut Vec<u8>) -> Result<(), AllocError>
     ensures { OnOk result (out.new.items
         ≡ out.old.items ++ attribute_words (attributes_at (rows_in tree.now) number)) }
 {
     put_id(tree.id(number).unwrap_or(b""), out)?;
     put_classes(tree, number, out)?;
     put_keys(tree, number, &SHOWN_KEYS, out)
+}
+
+// Writes the attributes of an element.
+#[tactic(auto, unfolding(crate::specs::NodeOutline::shown_keys))]
+fn put_attributes(tree: &Tree<'_>, number: usize, out: &mut Vec<u8>) -> Result<(), AllocError>
+    ensures { OnOk result (out.new.items
+        ≡ out.old.items ++ attribute_words (attributes_at (rows_in tree.now) number)) }
+{
+    let mut attributes = tree.attributes(number);
+    if attributes.next().is_none() {
+        return Ok(());
+    }
+    put_some(tree, number, out)
 }
 
 /// Writes an element.

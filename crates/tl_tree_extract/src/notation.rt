@@ -3,10 +3,11 @@ ghost use Rattle.std.specs.Prelude.{◌≡◌, ◌<◌, ◌++◌, flat_map, OnOk
 ghost use Rattle.tl_html_spec.specs.Digits.{digit_in, digits};
 ghost use Rattle.tl_tree_extract.specs.Notation.{css_name, css_string, escape_of, first_byte, is_control, is_plain, name_byte, number_escape, string_byte};
 
+use crate::written_bytes::{Written, is_unmarked};
 use std::alloc::AllocError;
 
-// Whether a byte stands for itself in a name.
-fn is_plain(byte: u8) -> bool
+/// Whether a byte stands for itself in a name.
+pub(crate) fn is_plain(byte: u8) -> bool
     ensures { result ≡ is_plain byte }
 {
     byte.is_ascii_alphanumeric() || byte == b'-' || byte == b'_' || byte >= 128
@@ -72,6 +73,9 @@ fn add_first_byte(out: &mut Vec<u8>, byte: u8) -> Result<(), AllocError>
 fn add_later_bytes(out: &mut Vec<u8>, bytes: &[u8]) -> Result<(), AllocError>
     ensures { OnOk result (out.new.items ≡ out.old.items ++ flat_map name_byte bytes.now) }
 {
+    if is_unmarked(Written::CssName, bytes) {
+        return out.extend_from_slice(bytes);
+    }
     for byte in bytes {
         add_name_byte(out, *byte)?;
     }
@@ -104,6 +108,9 @@ fn add_string_byte(out: &mut Vec<u8>, byte: u8) -> Result<(), AllocError>
 fn add_string_bytes(out: &mut Vec<u8>, bytes: &[u8]) -> Result<(), AllocError>
     ensures { OnOk result (out.new.items ≡ out.old.items ++ flat_map string_byte bytes.now) }
 {
+    if is_unmarked(Written::CssString, bytes) {
+        return out.extend_from_slice(bytes);
+    }
     for byte in bytes {
         add_string_byte(out, *byte)?;
     }

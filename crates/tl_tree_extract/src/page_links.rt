@@ -139,6 +139,23 @@ fn push_links<'t>(
     Ok(())
 }
 
+/// The links of an attribute of an element of this number, in the order of its value.
+pub fn attribute_links<'t>(
+    alloc: Global,
+    tree: &Tree<'_>,
+    number: usize,
+    attribute: Attribute<'t>,
+) -> Result<Vec<Link<'t>>, AllocError>
+    ensures { IfOk result (λ links. map link_said links.items
+        ≡ attribute_links (rows_in tree.now) number (attribute_said attribute.entry)) }
+{
+    let mut links = Vec::new(alloc);
+    if let Some(kind) = kind_of(tree, number, attribute) {
+        push_parts(&mut links, number, attribute, kind)?;
+    }
+    Ok(links)
+}
+
 /// Where contents of templates end at last that begin no later than a number, from where those end
 /// that begin before it.
 pub(crate) fn contents_end(tree: &Tree<'_>, number: usize, behind: usize) -> usize

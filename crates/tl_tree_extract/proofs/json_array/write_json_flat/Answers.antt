@@ -1,0 +1,9 @@
+use Rattle.std.proofs.lemmas.Result.{on_ok_weaker}
+use Rattle.tl_tree_extract.proofs.Sinks.{tokens_of}
+use Rattle.tl_tree_extract.proofs.json_array.write_json_flat.Goals as goal
+
+pub returns-clause-tokens : goal.returns-clause-tokens
+returns-clause-tokens c =
+    on_ok_weaker c.put_array.result
+    (λ e. tokens_of c.args.out.now c.put_array.new.out _ e)
+    c.put_array.ensures.adds
