@@ -1,3 +1,11 @@
+pub mod Bases
+pub mod Kept
+pub mod Linked
+pub mod NamesGot
+pub mod Others
 pub mod Places
 pub mod SplitKeys
+pub mod Splits
 pub mod Written
+pub mod Shorts
+pub mod Gots

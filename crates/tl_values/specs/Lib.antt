@@ -1,7 +1,11 @@
+pub mod Absolute
 pub mod Examples
 pub mod Inner
 pub mod Keys
+pub mod Names
+pub mod Naming
 pub mod NewValues
+pub mod Parameters
 pub mod Patterns
 pub mod Rewrites
 pub mod Values

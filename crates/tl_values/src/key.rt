@@ -1,5 +1,6 @@
 //! Keys of tags.
-ghost use Rattle.std.specs.Option.{option_copied};
+ghost use Rattle.std.specs.List.{find};
+ghost use Rattle.std.specs.Option.{option_copied, option_map};
 ghost use Rattle.std.specs.Prelude.{◌≡◌};
 ghost use Rattle.std.specs.Str.{str_eq_ignore_ascii_case};
 ghost use Rattle.tl_tree.specs.Asked.{attribute_said, attributes_at};
@@ -28,15 +29,30 @@ fn has_key(key: &[u8], attribute: Attribute<'_>) -> bool
     are_same(front, prefix) && are_same(back, attribute.key)
 }
 
-/// The value of the first attribute of an element that comes of a key of its tag.
+/// The first attribute of an element that comes of a key of its tag.
+pub(crate) fn attribute_at<'t>(
+    tree: &'t Tree<'_>,
+    number: usize,
+    key: &[u8],
+) -> Option<Attribute<'t>>
+    ensures { option_map attribute_said result
+        ≡ find (has_key key.now) (attributes_at (rows_in tree.now) number) }
+{
+    for attribute in tree.attributes(number) {
+        if has_key(key, attribute) {
+            return Some(attribute);
+        }
+    }
+    None
+}
+
+/// Its value.
 pub(crate) fn value_at<'t>(tree: &'t Tree<'_>, number: usize, key: &[u8]) -> Option<&'t [u8]>
     ensures { option_copied result
         ≡ value_at key.now (attributes_at (rows_in tree.now) number) }
 {
-    for attribute in tree.attributes(number) {
-        if has_key(key, attribute) {
-            return Some(attribute.value);
-        }
+    match attribute_at(tree, number, key) {
+        Some(attribute) => Some(attribute.value),
+        None => None,
     }
-    None
 }

@@ -3,16 +3,20 @@ ghost use Rattle.std.specs.Prelude.{IfOk, map, ◌++◌, ◌≡◌};
 ghost use Rattle.std.specs.Option.{option_copied, option_map};
 ghost use Rattle.tl_tree.specs.Asked.{attributes_at};
 ghost use Rattle.tl_tree.specs.TreeView.{rows_in};
-ghost use Rattle.tl_values.specs.NewValues.{got, value_got, values_got};
+ghost use Rattle.tl_values.specs.NewValues.{each_got, got, value_got, values_got};
 ghost use Rattle.tl_values.specs.Rewrites.{made_of, source_of};
 
+use crate::absolute::absolute_values;
 use crate::key::value_at;
+use crate::naming::names_got;
 use crate::new_value::NewValue;
+use crate::parameters::without_parameters;
 use crate::pattern::Pattern;
 use crate::replace::replaced;
 use crate::words::{with_word, without_word};
 use std::alloc::{AllocError, Global};
 use tl_tree::Tree;
+use url::Url;
 
 /// How the value of a key is made of an old one.
 #[derive(Drop)]
@@ -31,6 +35,14 @@ pub enum Rewrite<'w> {
     Pattern(Pattern<'w>),
     /// It is the value of another key.
     CopyOf(String),
+    /// As a URL it lacks the parameters of its query whose names a pattern stands for, in which the
+    /// first `*` stands for any bytes.
+    DropQuery(&'w str),
+    /// The URLs that it holds need no base, where the page has this URL.
+    Absolute(Url),
+    /// It is the words of the element's text in lower case, with a `-` between them; behind it
+    /// stands a number where the page has it already. A value that stands there stays.
+    FromText,
 }
 
 // Two texts, one behind the other.
@@ -56,8 +68,9 @@ impl Rewrite<'_> {
             Rewrite::Replace { sought, put } => {
                 replaced(alloc, sought.as_bytes(), put.as_bytes(), value)
             }
-            Rewrite::Pattern(pattern) => pattern.replaced(alloc, value),
-            Rewrite::CopyOf(_) => Ok(value.to_vec(alloc)?),
+            Rewrite::DropQuery(names) => without_parameters(alloc, names.as_bytes(), value),
+            Rewrite::CopyOf(_) | Rewrite::Pattern(_) | Rewrite::Absolute(_) | Rewrite::FromText =>
+                Ok(value.to_vec(alloc)?),
         }
     }
 
@@ -94,8 +107,30 @@ impl Rewrite<'_> {
         Ok(Some(made))
     }
 
+    // The values that nodes get which are made of values of their attributes.
+    fn each_value(
+        &self,
+        alloc: Global,
+        tree: &Tree<'_>,
+        numbers: &[usize],
+        key: &[u8],
+    ) -> Result<Vec<NewValue>, AllocError>
+        ensures { IfOk result (λ values. map got values.items
+            ≡ each_got (value_got self.now key.now (rows_in tree.now)) numbers.now) }
+    {
+        let mut values = Vec::new(alloc);
+        for number in numbers {
+            let number = *number;
+            if let Some(value) = self.value_got(alloc, tree, number, key)? {
+                values.push(NewValue { number, value })?;
+            }
+        }
+        Ok(values)
+    }
+
     /// The values that nodes get at a key in this way, of each node that gets another one than
-    /// stands there. No key is put into a tag but by `AddWord` and `CopyOf`.
+    /// stands there. No key is put into a tag but by `AddWord`, `CopyOf` and
+    /// `FromText`.
     pub fn values(
         &self,
         alloc: Global,
@@ -106,13 +141,11 @@ impl Rewrite<'_> {
         ensures { IfOk result (λ values. map got values.items
             ≡ values_got self.now key.now (rows_in tree.now) numbers.now) }
     {
-        let mut values = Vec::new(alloc);
-        for number in numbers {
-            let number = *number;
-            if let Some(value) = self.value_got(alloc, tree, number, key)? {
-                values.push(NewValue { number, value })?;
-            }
+        match self {
+            Rewrite::Pattern(pattern) => pattern.values(alloc, tree, numbers, key),
+            Rewrite::Absolute(own) => absolute_values(alloc, own, tree, numbers, key),
+            Rewrite::FromText => names_got(alloc, tree, numbers, key),
+            _ => self.each_value(alloc, tree, numbers, key),
         }
-        Ok(values)
     }
 }

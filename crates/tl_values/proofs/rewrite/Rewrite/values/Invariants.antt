@@ -1,9 +1,0 @@
-use Rattle.std.proofs.Common.{◌≡◌, map, take}
-use Rattle.tl_tree.specs.TreeView.{rows_in}
-use Rattle.tl_values.specs.NewValues.{got, values_got}
-use Rattle.tl_values.proofs.rewrite.Rewrite.values.Given as goal
-
--- the values are those of the nodes so far
-abbrev pub invariant-loop-number : goal.invariant-loop-number
-invariant-loop-number l =
-    map got l.values.items ≡ values_got l.self l.key (rows_in l.tree) (take l.number-index l.numbers)
