@@ -1,13 +1,13 @@
 -- What is answered of a page, by its tree.
 use Rattle.std.proofs.Common.{Err, List, Ok, Result, ap, length, subst, true, ℕ, ◌∙◌, ◌≡◌}
 use Rattle.std.specs.Prelude.{IfErr, IfOk, OnOk}
-use Rattle.tl_answers.specs.Answers.{Matches, answer_of, table_asked}
+use Rattle.tl_answers.specs.Answers.{IsUnanswered, Matches, answer_of, table_asked}
 use Rattle.tl_answers.specs.Findings.{finding_of}
 use Rattle.tl_answers.specs.Pages.{AreSources, IsAnswered, IsRefused, page_rows, searched}
-use Rattle.tl_answers.specs.Tables.{Fits, IsLargeAt, IsUnanswered}
+use Rattle.tl_answers.specs.Tables.{Fits, IsLargeAt}
 use Rattle.tl_answers.specs.declared.error.AnswerError.{AnswerError}
 use Rattle.tl_answers.specs.declared.error.AnswerError.TheVariants as errors
-use Rattle.tl_answers.specs.declared.error.AnswerError.TheVariants.{LargeTable, Unread}
+use Rattle.tl_answers.specs.declared.error.AnswerError.TheVariants.{LargeTable, LongUrl, Unread}
 use Rattle.tl_answers.specs.declared.output.Output.{Output}
 use Rattle.tl_answers.specs.declared.question.Question.{Question}
 use Rattle.tl_dom_spec.specs.HtmlTree.{html_tree, is_in_proportion_by, standard}
@@ -39,7 +39,7 @@ module _ (page : List ℕ) (tree : Tree) (rows : rows_in tree ≡ rows_of (html_
 
   pub answered : (question : Question) (m : Matches) (end : List ℕ) (r : Result Output AnswerError) → is_in_proportion_by standard page ≡ true
       → AreSourced page (page_begin standard page) tree
-      → IfOk r (λ output. finding_of output ≡ answer_of question m end (html_tree page).trees (source_at tree))
+      → IfOk r (λ output. finding_of output ≡ answer_of question m end (html_tree page).trees (source_at tree) page)
       → OnOk r (Fits (length page) (rows_in tree) (table_asked (rows_in tree) question))
       → IfOk r (λ output. IsAnswered question m end page (finding_of output))
   answered question m end (Ok output) in_proportion sourced said fits = record {
@@ -52,7 +52,7 @@ module _ (page : List ℕ) (tree : Tree) (rows : rows_in tree ≡ rows_of (html_
   answered question m end (Err error) in_proportion sourced said fits = tt
 
   refused_by : (question : Question) (error : AnswerError) → is_in_proportion_by standard page ≡ true → AreSourced page (page_begin standard page) tree
-      → IsUnanswered (length page) (rows_in tree) (source_at tree) (table_asked (rows_in tree) question) error → IsRefused question page error
+      → IsUnanswered (length page) (rows_in tree) (source_at tree) question error → IsRefused question page error
   refused_by question (Unread error) in_proportion sourced why = absurd why
   refused_by question (LargeTable at) in_proportion sourced why = record {
     in_proportion = in_proportion;
@@ -60,10 +60,11 @@ module _ (page : List ℕ) (tree : Tree) (rows : rows_in tree ≡ rows_of (html_
     are_sources = are_sources sourced;
     large = subst (λ (R : List Row). IsLargeAt (length page) R (source_at tree) (table_asked R question) at) rows why;
   }
+  refused_by question LongUrl in_proportion sourced why = why
   refused_by question errors.OutOfMemory in_proportion sourced why = tt
 
   pub refused : (question : Question) (r : Result Output AnswerError) → is_in_proportion_by standard page ≡ true
       → AreSourced page (page_begin standard page) tree
-      → IfErr r (IsUnanswered (length page) (rows_in tree) (source_at tree) (table_asked (rows_in tree) question)) → IfErr r (IsRefused question page)
+      → IfErr r (IsUnanswered (length page) (rows_in tree) (source_at tree) question) → IfErr r (IsRefused question page)
   refused question (Ok output) in_proportion sourced why = tt
   refused question (Err error) in_proportion sourced why = refused_by question error in_proportion sourced why

@@ -4,4 +4,7 @@ pub mod Joined
 pub mod Nth
 pub mod Marks
 pub mod Answered
+pub mod Unanswered
+pub mod Placed
+pub mod Recorded
 pub mod Edits

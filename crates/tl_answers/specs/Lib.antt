@@ -2,6 +2,10 @@ pub mod Findings
 pub mod Document
 pub mod LeftOut
 pub mod Lines
+pub mod Urls
+pub mod LinkLines
+pub mod Records
+pub mod Places
 pub mod Objects
 pub mod Tables
 pub mod Answers

@@ -1,11 +1,11 @@
 -- What is answered of a page: of the tree that the HTML standard builds of its bytes.
 use Rattle.std.specs.Prelude.{List, None, Option, Some, false, length, true, ℕ, ⊤, ◌≡◌, ◌≤◌}
-use Rattle.tl_answers.specs.Answers.{Matches, answer_of, table_asked}
+use Rattle.tl_answers.specs.Answers.{AsksForUrls, Matches, answer_of, table_asked}
 use Rattle.tl_answers.specs.Findings.{Finding}
 use Rattle.tl_answers.specs.Tables.{Fits, IsLargeAt}
 use Rattle.tl_answers.specs.declared.error.AnswerError.{AnswerError}
 use Rattle.tl_answers.specs.declared.error.AnswerError.TheVariants as errors
-use Rattle.tl_answers.specs.declared.error.AnswerError.TheVariants.{LargeTable, Unread}
+use Rattle.tl_answers.specs.declared.error.AnswerError.TheVariants.{LargeTable, LongUrl, Unread}
 use Rattle.tl_answers.specs.declared.question.Question.{Question}
 use Rattle.tl_dom_spec.specs.HtmlTree.{html_tree, is_in_proportion_by, standard}
 use Rattle.tl_tree.specs.Asked.{node_at}
@@ -43,7 +43,7 @@ pub record IsAnswered (question : Question) (m : Matches) (end page : List ℕ)
   pub in_proportion : is_in_proportion_by standard page ≡ true
   pub sources : ℕ → Option Source
   pub are_sources : AreSources page sources
-  pub answer : finding ≡ answer_of question m end (html_tree page).trees sources
+  pub answer : finding ≡ answer_of question m end (html_tree page).trees sources page
   pub fits : Fits (length page) (page_rows page) (table_asked (page_rows page) question)
 
 -- why it isn't read
@@ -67,4 +67,5 @@ pub record HasLargeTableAt (question : Question) (page : List ℕ) (at : ℕ) : 
 abbrev pub IsRefused : Question → List ℕ → AnswerError → Type 0
 IsRefused question page (Unread error) = IsUnread page error
 IsRefused question page (LargeTable at) = HasLargeTableAt question page at
+IsRefused question page LongUrl = AsksForUrls question
 IsRefused question page errors.OutOfMemory = ⊤

@@ -45,8 +45,8 @@ pub(crate) fn is_html_at(tree: &Tree<'_>, number: usize) -> bool
     matches!(tree.namespace(number), Some(Namespace::Html))
 }
 
-// The value of a node at a key.
-fn value_at<'t>(tree: &'t Tree<'_>, number: usize, key: Key<'_>) -> Option<&'t [u8]>
+/// The value of a node at a key.
+pub(crate) fn value_at<'t>(tree: &'t Tree<'_>, number: usize, key: Key<'_>) -> Option<&'t [u8]>
     ensures { option_copied result ≡ value_at key.entry (rows_in tree.now) number }
 {
     if is_html_at(tree, number) {

@@ -1,19 +1,17 @@
 //! Answers of a tree, each with what ends it.
-ghost use Rattle.std.specs.Prelude.{IfOk, OnOk, flat_map, map, ◌++◌, ◌≡◌};
-ghost use Rattle.tl_answers.specs.Answers.{link_line};
+ghost use Rattle.std.specs.Prelude.{IfOk, OnOk, ◌++◌, ◌≡◌};
 ghost use Rattle.tl_answers.specs.Findings.{finding_of, listed, number_line, of_nodes};
 ghost use Rattle.tl_answers.specs.Lines.{comment_lines, comments_inside, field_lines, readable_lines};
 ghost use Rattle.tl_dom_spec.specs.HtmlForest.{HtmlForest};
 ghost use Rattle.tl_tree.specs.Rows.{rows_of};
 ghost use Rattle.tl_tree.specs.TreeView.{rows_in};
-ghost use Rattle.tl_tree_extract.specs.Links.{links_of};
 ghost use Rattle.tl_tree_extract.specs.Marks.{comments_of};
 
 use crate::field::{Field, put_inside, put_line};
 use crate::output::Output;
 use std::alloc::{AllocError, Global};
 use tl_tree::Tree;
-use tl_tree_extract::{comments, comments_below, links};
+use tl_tree_extract::{comments, comments_below};
 
 /// The fields of the nodes of these numbers, each with what ends it.
 pub(crate) fn field_lines(
@@ -60,19 +58,6 @@ pub(crate) fn count_line(alloc: Global, number: usize, end: &str) -> Result<Outp
         bytes: text.into_bytes(),
         is_found: number > 0,
     })
-}
-
-/// The links of a page.
-pub(crate) fn link_lines(alloc: Global, tree: &Tree<'_>, end: &str) -> Result<Output, AllocError>
-    ensures { let links = links_of (rows_in tree.now) in IfOk result (λ lines.
-        finding_of lines ≡ listed (flat_map (link_line end.now) links)) }
-{
-    let mut lines = Vec::new(alloc);
-    for link in links(alloc, tree)?.iter() {
-        lines.extend_from_slice(link.part.bytes)?;
-        lines.extend_from_slice(end.as_bytes())?;
-    }
-    Ok(Output::from_lines(lines))
 }
 
 // Writes what the comments of these numbers say, each with what ends it.

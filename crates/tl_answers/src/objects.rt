@@ -1,34 +1,15 @@
 //! Nodes as JSON.
-ghost use Rattle.std.specs.Prelude.{IfOk, OnOk, Some, ◌++◌, ◌≡◌};
+ghost use Rattle.std.specs.Prelude.{IfOk, Some, ◌≡◌};
 ghost use Rattle.tl_answers.specs.Findings.{finding_of, listed, of_nodes};
-ghost use Rattle.tl_answers.specs.Objects.{array_line, array_tokens};
+ghost use Rattle.tl_answers.specs.Objects.{array_line};
 ghost use Rattle.tl_tree.specs.Sources.{source_at};
 ghost use Rattle.tl_tree.specs.TreeView.{rows_in};
 ghost use Rattle.tl_tree_extract.specs.Json.{json_lines};
 
 use crate::output::Output;
-use json::Writer;
 use std::alloc::{AllocError, Global};
 use tl_tree::Tree;
-use tl_tree_extract::{JsonForm, write_json_flat, write_json_lines, write_json_nodes};
-
-// Writes an array of the objects of the nodes of these numbers.
-fn put_array(
-    alloc: Global,
-    tree: &Tree<'_>,
-    numbers: &[usize],
-    form: JsonForm,
-    out: &mut Writer,
-) -> Result<(), AllocError>
-    ensures tokens { OnOk result (out.new.tokens ≡ out.old.tokens
-        ++ array_tokens form (source_at tree.now) (rows_in tree.now) numbers.now) }
-    ensures before { out.new.before ≡ out.old.before }
-{
-    match form {
-        JsonForm::Nested => write_json_nodes(alloc, tree, numbers, out),
-        JsonForm::Flat => write_json_flat(alloc, tree, numbers, out),
-    }
-}
+use tl_tree_extract::{JsonForm, write_json_array, write_json_lines};
 
 /// An array of the objects of the nodes of these numbers, and what ends it.
 pub(crate) fn object_array(
@@ -41,9 +22,8 @@ pub(crate) fn object_array(
     ensures { IfOk result (λ output. finding_of output ≡ of_nodes numbers.now
         (array_line form end.now (source_at tree.now) (rows_in tree.now) numbers.now)) }
 {
-    let mut writer = Writer::new(Vec::new(alloc));
-    put_array(alloc, tree, numbers, form, &mut writer)?;
-    let mut text = writer.into_inner();
+    let mut text = Vec::new(alloc);
+    write_json_array(alloc, tree, numbers, form, &mut text)?;
     text.extend_from_slice(end.as_bytes())?;
     Ok(Output::of_nodes(numbers, text))
 }

@@ -30,5 +30,5 @@ pub fn answer_of_page(
     ensures told { IfErr result (IsRefused question.now page.now) }
 {
     let tree = Tree::read(alloc, page, FLAGS)?;
-    answer(alloc, question, end, &tree, page.len())
+    answer(alloc, question, end, &tree, page)
 }

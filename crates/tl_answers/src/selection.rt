@@ -14,6 +14,8 @@ use crate::left_out::left_out;
 use crate::lines::{comments_inside, count_line, field_lines, readable_lines};
 use crate::objects::{object_array, object_lines};
 use crate::output::Output;
+use crate::places::placed_lines;
+use crate::records::{Records, record_lines};
 use std::alloc::{AllocError, Global};
 use tl_css::Selector;
 use tl_tree::Tree;
@@ -25,11 +27,15 @@ use tl_tree_select::select;
 pub enum Listing<'w> {
     /// A field of each.
     Fields(Field<'w>),
+    /// The same behind the line and the column where it begins.
+    Placed(Field<'w>),
     /// The readable text inside each, which may be empty, but for what is in nodes where a selector
     /// holds, if one is said.
     Readable(Option<&'w Selector>),
     /// The comments below each.
     Comments,
+    /// Values of each in columns.
+    Records(Records<'w>),
     /// How many there are.
     Count,
     /// An array of JSON, with an object for each.
@@ -65,38 +71,42 @@ fn list(
     numbers: &[usize],
     listing: &Listing<'_>,
     end: &str,
+    page: &[u8],
 ) -> Result<Output, AllocError>
     ensures { (trees : HtmlForest) (out : List ℕ) → rows_in tree.now ≡ rows_of trees →
         AreLeftOut (but_of listing.now) (page_of tree.now) out → IfOk result
         (λ output. finding_of output
-        ≡ listing_of listing.now end.now trees (source_at tree.now) numbers.now out) }
+        ≡ listing_of listing.now end.now trees (source_at tree.now) page.now numbers.now out) }
 {
     match listing {
         Listing::Fields(field) => field_lines(alloc, tree, numbers, *field, end),
+        Listing::Placed(field) => placed_lines(alloc, tree, page, numbers, *field, end),
         Listing::Readable(but) => {
             let marks = left_out(alloc, tree, *but)?;
             readable_lines(alloc, tree, &marks, numbers)
         }
         Listing::Comments => comments_inside(alloc, tree, numbers, end),
+        Listing::Records(own) => record_lines(alloc, tree, numbers, *own),
         Listing::Count => count_line(alloc, numbers.len(), end),
         Listing::Objects(form) => object_array(alloc, tree, numbers, *form, end),
         Listing::Lines(form, file) => object_lines(alloc, tree, numbers, *form, file),
     }
 }
 
-/// What is written of the nodes of a page where a selector holds.
+/// What is written of the nodes of the tree of a page where a selector holds.
 pub(crate) fn selection(
     alloc: Global,
     tree: &Tree<'_>,
     query: &Query<'_>,
     end: &str,
+    page: &[u8],
 ) -> Result<Output, AllocError>
     ensures { (trees : HtmlForest) (m : Matches) → rows_in tree.now ≡ rows_of trees →
         let query = query.now in AreAsked query (page_of tree.now) m
         → IfOk result (λ output. finding_of output ≡ listing_of query.listing end.now trees
-        (source_at tree.now) (front query.most m.found) m.left_out) }
+        (source_at tree.now) page.now (front query.most m.found) m.left_out) }
 {
     let numbers = select(alloc, tree, query.selector)?;
     let meant = front(&numbers, query.most);
-    list(alloc, tree, meant, &query.listing, end)
+    list(alloc, tree, meant, &query.listing, end, page)
 }

@@ -1,7 +1,7 @@
 //! A table of a page.
 ghost use Rattle.std.specs.Prelude.{IfErr, IfOk, OnOk, slice_get, ◌≡◌};
 ghost use Rattle.tl_answers.specs.Findings.{finding_of};
-ghost use Rattle.tl_answers.specs.Tables.{Fits, IsUnanswered, is_table_at, start_of, table_limit, table_lines, tables_of};
+ghost use Rattle.tl_answers.specs.Tables.{Fits, IsTableReason, asked_table, is_table_at, start_of, table_limit, table_lines, tables_of};
 ghost use Rattle.tl_tree.specs.Sources.{source_at};
 ghost use Rattle.tl_tree.specs.TreeView.{rows_in};
 
@@ -12,6 +12,15 @@ use crate::output::Output;
 use std::alloc::Global;
 use tl_tree::Tree;
 use tl_tree_extract::{Columns, Spans, TableError, write_table};
+
+/// Which table of a page is written, and how.
+#[derive(Clone, Copy)]
+pub struct TableQuery {
+    /// Its number among those of the page, from 0.
+    pub number: usize,
+    pub columns: Columns,
+    pub spans: Spans,
+}
 
 // Whether a node is a `table` of HTML.
 fn is_table_at(tree: &Tree<'_>, number: usize) -> bool
@@ -58,27 +67,33 @@ fn start_of(tree: &Tree<'_>, number: usize) -> usize
     }
 }
 
-/// The table of a number among those of a page of so many bytes, from 0, as CSV, each slot with the
-/// words of the cell that covers it; nothing is found where there is no such table.
+/// A table of a page of so many bytes; nothing is found where there is no such table.
 pub(crate) fn table_lines(
     alloc: Global,
     tree: &Tree<'_>,
-    number: usize,
+    query: TableQuery,
     size: usize,
 ) -> Result<Output, AnswerError>
-    ensures made { IfOk result (λ lines. finding_of lines ≡ table_lines (rows_in tree.now) number) }
+    ensures made { IfOk result (λ lines. finding_of lines ≡ table_lines (rows_in tree.now) query) }
     ensures fits { let rows = rows_in tree.now in
-        OnOk result (Fits size rows (slice_get (tables_of rows) number)) }
+        OnOk result (Fits size rows (asked_table rows query)) }
     ensures told { let rows = rows_in tree.now in IfErr result
-        (IsUnanswered size rows (source_at tree.now) (slice_get (tables_of rows) number)) }
+        (IsTableReason size rows (source_at tree.now) (asked_table rows query)) }
 {
     let mut lines = Vec::new(alloc);
-    let Some(table) = nth_table(tree, number) else {
+    let Some(table) = nth_table(tree, query.number) else {
         return Ok(Output::from_lines(lines));
     };
     let limit = table_limit(size);
-    let (columns, spans) = (Columns::Commas, Spans::Filled);
-    match write_table(alloc, tree, table, columns, spans, limit, &mut lines) {
+    match write_table(
+        alloc,
+        tree,
+        table,
+        query.columns,
+        query.spans,
+        limit,
+        &mut lines,
+    ) {
         Ok(()) => Ok(Output::whole(lines)),
         Err(TableError::TooLong) => Err(AnswerError::LargeTable {
             at: start_of(tree, table),
