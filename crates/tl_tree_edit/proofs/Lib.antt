@@ -6,3 +6,5 @@ pub mod Following
 pub mod Saying
 pub mod Ending
 pub mod Reading
+pub mod Held
+pub mod Places

@@ -2,15 +2,20 @@
 -- DOM standard names it: before an element begins (`before`), behind where it begins (`front`),
 -- before its end (`back`), behind its end (`behind`).
 use Rattle.std.specs.List.{list_any}
-use Rattle.std.specs.Prelude.{Bool, List, None, Option, Some, [], false, filter, if◌then◌else◌, nat_lt, not, suc, true, ℕ, ◌&&◌, ◌++◌, ◌==◌, ◌∷◌}
+use Rattle.std.specs.Prelude.{Bool, List, None, Option, Some, [], false, filter, if◌then◌else◌, map, nat_lt, not, suc, true, ℕ, ◌&&◌, ◌++◌, ◌==◌, ◌∷◌}
 use Rattle.std.specs.Str.{bytes_eq}
 use Rattle.tl_dom_spec.specs.Tags.{Attribute, no_space}
 use Rattle.tl_tree.specs.Asked.{has_no_space}
 use Rattle.tl_tree.specs.Rows.{Node, Row, an_element}
 use Rattle.tl_tree_edit.specs.Bare.{bare}
-use Rattle.tl_tree_edit.specs.Events.{Event, Step, begins, ends, events, has_end, kept, said}
+use Rattle.tl_tree_edit.specs.Events.{Event, Step, begins, ends, events, has_end, kept, said, says}
 
--- What is done to an element; rows are those of the trees that are put in
+-- What is put in: trees, by their rows, or a text
+pub data Put : Type 0 where
+  Trees : List Row → Put
+  Text : List ℕ → Put
+
+-- What is done to an element
 pub data Change : Type 0 where
   -- a key has a value, in the place of the one that stood there, or else in front
   Set : List ℕ → List ℕ → Change
@@ -22,12 +27,12 @@ pub data Change : Type 0 where
   Remove : Change
   -- it goes, and what stands in it stays
   Unwrap : Change
-  Replace : List Row → Change
-  Fill : List Row → Change
-  Before : List Row → Change
-  Prepend : List Row → Change
-  Append : List Row → Change
-  After : List Row → Change
+  Replace : Put → Change
+  Fill : Put → Change
+  Before : Put → Change
+  Prepend : Put → Change
+  Append : Put → Change
+  After : Put → Change
 
 pub record Edit : Type 0 where
   -- the element, or the contents of a template
@@ -91,42 +96,46 @@ changed_node _ node = node
 
 -- What is put in, and what stays
 
-abbrev pub before : Change → Option (List Row)
-before (Before trees) = Some trees
-before (Replace trees) = Some trees
+abbrev pub before : Change → Option Put
+before (Before own) = Some own
+before (Replace own) = Some own
 before _ = None
 
-abbrev pub front : Change → Option (List Row)
-front (Prepend trees) = Some trees
-front (Fill trees) = Some trees
+abbrev pub front : Change → Option Put
+front (Prepend own) = Some own
+front (Fill own) = Some own
 front _ = None
 
-abbrev pub back : Change → Option (List Row)
-back (Append trees) = Some trees
+abbrev pub back : Change → Option Put
+back (Append own) = Some own
 back _ = None
 
-abbrev pub behind : Change → Option (List Row)
-behind (After trees) = Some trees
+abbrev pub behind : Change → Option Put
+behind (After own) = Some own
 behind _ = None
 
 -- whether the element itself stays
 abbrev pub stays : Change → Bool
 stays Remove = false
 stays Unwrap = false
-stays (Replace trees) = false
+stays (Replace own) = false
 stays _ = true
 
 -- whether what stood in it goes
 abbrev pub is_emptied : Change → Bool
 is_emptied Remove = true
-is_emptied (Replace trees) = true
-is_emptied (Fill trees) = true
+is_emptied (Replace own) = true
+is_emptied (Fill own) = true
 is_emptied _ = false
 
--- what trees say that are put in
-abbrev pub put : Option (List Row) → List Event
-put None = []
-put (Some trees) = events trees
+-- what is said of what is put in
+abbrev pub told : Put → List Event
+told (Trees rows) = events rows
+told (Text bytes) = map says bytes
+
+abbrev pub all_told : Option Put → List Event
+all_told None = []
+all_told (Some own) = told own
 
 abbrev pub where_it_stays : Change → List Event → List Event
 where_it_stays change own = if stays change then own else []
@@ -134,12 +143,14 @@ where_it_stays change own = if stays change then own else []
 -- where it begins, and where it ends
 abbrev pub first_of : Change → Node → List Event
 first_of change node =
-    put (before change)
+    all_told (before change)
     ++ (where_it_stays change (begins (bare (changed_node change node)) ∷ [])
-    ++ put (front change))
+    ++ all_told (front change))
 
 abbrev pub last_of : Change → List Event
-last_of change = put (back change) ++ (where_it_stays change (ends ∷ []) ++ put (behind change))
+last_of change =
+    all_told (back change)
+    ++ (where_it_stays change (ends ∷ []) ++ all_told (behind change))
 
 abbrev pub changed : Change → Row → Step
 changed change row = record {

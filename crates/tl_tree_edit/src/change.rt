@@ -1,14 +1,21 @@
 //! What is done to elements of a tree.
-ghost use Rattle.std.specs.Option.{option_copied};
 ghost use Rattle.std.specs.Prelude.{◌≡◌};
 ghost use Rattle.tl_tree_edit.specs.Changes.{back, before, behind, front, is_emptied, stays};
-ghost use Rattle.tl_tree_edit.specs.Inner.Walk.{put_in};
-ghost use Rattle.tl_tree_edit.specs.View.{change_of};
+ghost use Rattle.tl_tree_edit.specs.Operations.{is_put_inside};
+ghost use Rattle.tl_tree_edit.specs.View.{change_of, puts_of};
 
 use tl_tree::Tree;
 
-/// What is done to an element. Trees that are put in are those of a fragment, as it is read where
-/// they come to stand.
+/// What is put in.
+#[derive(Clone, Copy)]
+pub enum Put<'c, 'p> {
+    /// The trees of a fragment, as it is read where they come to stand.
+    Trees(&'c Tree<'p>),
+    /// A text.
+    Text(&'c [u8]),
+}
+
+/// What is done to an element.
 #[derive(Clone, Copy)]
 pub enum Change<'c, 'p> {
     /// A key has a value, in the place of the one that stood there, or else in front.
@@ -21,18 +28,18 @@ pub enum Change<'c, 'p> {
     Remove,
     /// It goes, and what stands in it stays.
     Unwrap,
-    /// Trees stand in its place.
-    Replace(&'c Tree<'p>),
-    /// Trees stand in it, in the place of what stood there.
-    Fill(&'c Tree<'p>),
-    /// Trees stand before it.
-    Before(&'c Tree<'p>),
-    /// Trees stand first in it.
-    Prepend(&'c Tree<'p>),
-    /// Trees stand last in it.
-    Append(&'c Tree<'p>),
-    /// Trees stand behind it.
-    After(&'c Tree<'p>),
+    /// Something stands in its place.
+    Replace(Put<'c, 'p>),
+    /// Something stands in it, in the place of what stood there.
+    Fill(Put<'c, 'p>),
+    /// Something stands before it.
+    Before(Put<'c, 'p>),
+    /// Something stands first in it.
+    Prepend(Put<'c, 'p>),
+    /// Something stands last in it.
+    Append(Put<'c, 'p>),
+    /// Something stands behind it.
+    After(Put<'c, 'p>),
 }
 
 /// A change of the element of a number. That of the contents of a template is the number of their
@@ -46,42 +53,42 @@ pub struct Edit<'c, 'p> {
 }
 
 impl<'c, 'p> Change<'c, 'p> {
-    // The trees that come to stand before the element begins.
-    pub(crate) fn before(self) -> Option<&'c Tree<'p>>
-        ensures { put_in (option_copied result) ≡ before (change_of self.entry) }
+    // What comes to stand before the element begins.
+    pub(crate) fn before(self) -> Option<Put<'c, 'p>>
+        ensures { puts_of result ≡ before (change_of self.entry) }
     {
         match self {
-            Change::Before(trees) | Change::Replace(trees) => Some(trees),
+            Change::Before(put) | Change::Replace(put) => Some(put),
             _ => None,
         }
     }
 
     // Those right behind where it begins.
-    pub(crate) fn front(self) -> Option<&'c Tree<'p>>
-        ensures { put_in (option_copied result) ≡ front (change_of self.entry) }
+    pub(crate) fn front(self) -> Option<Put<'c, 'p>>
+        ensures { puts_of result ≡ front (change_of self.entry) }
     {
         match self {
-            Change::Prepend(trees) | Change::Fill(trees) => Some(trees),
+            Change::Prepend(put) | Change::Fill(put) => Some(put),
             _ => None,
         }
     }
 
     // Those right before its end.
-    pub(crate) fn back(self) -> Option<&'c Tree<'p>>
-        ensures { put_in (option_copied result) ≡ back (change_of self.entry) }
+    pub(crate) fn back(self) -> Option<Put<'c, 'p>>
+        ensures { puts_of result ≡ back (change_of self.entry) }
     {
         match self {
-            Change::Append(trees) => Some(trees),
+            Change::Append(put) => Some(put),
             _ => None,
         }
     }
 
     // Those behind its end.
-    pub(crate) fn behind(self) -> Option<&'c Tree<'p>>
-        ensures { put_in (option_copied result) ≡ behind (change_of self.entry) }
+    pub(crate) fn behind(self) -> Option<Put<'c, 'p>>
+        ensures { puts_of result ≡ behind (change_of self.entry) }
     {
         match self {
-            Change::After(trees) => Some(trees),
+            Change::After(put) => Some(put),
             _ => None,
         }
     }
@@ -98,5 +105,15 @@ impl<'c, 'p> Change<'c, 'p> {
         ensures { result ≡ is_emptied (change_of self.entry) }
     {
         matches!(self, Change::Remove | Change::Replace(_) | Change::Fill(_))
+    }
+
+    // Whether something is put into the element.
+    pub(crate) fn is_put_inside(self) -> bool
+        ensures { result ≡ is_put_inside (change_of self.entry) }
+    {
+        matches!(
+            self,
+            Change::Fill(_) | Change::Prepend(_) | Change::Append(_)
+        )
     }
 }

@@ -1,19 +1,19 @@
 //! Whether what is left of a tree begins with what another one says.
-ghost use Rattle.std.specs.Option.{option_copied, option_map};
+ghost use Rattle.std.specs.Option.{option_map};
 ghost use Rattle.std.specs.Prelude.{IfOk, List, Some, [], map, ◌∷◌, ◌≡◌};
 ghost use Rattle.tl_dom_spec.specs.Marks.{Marked};
 ghost use Rattle.tl_tree.specs.Asked.{node_at};
 ghost use Rattle.tl_tree.specs.Rows.{Node};
 ghost use Rattle.tl_tree.specs.TreeView.{rows_in};
 ghost use Rattle.tl_tree_edit.specs.Bare.{bare};
-ghost use Rattle.tl_tree_edit.specs.Changes.{changed_node, put, where_it_stays};
+ghost use Rattle.tl_tree_edit.specs.Changes.{all_told, changed_node, told, where_it_stays};
 ghost use Rattle.tl_tree_edit.specs.Events.{begins, ends, events, says};
 ghost use Rattle.tl_tree_edit.specs.Events.{Event as Said};
-ghost use Rattle.tl_tree_edit.specs.Inner.Walk.{Follows, IsNext, Meets, changed_by, left, put_in};
-ghost use Rattle.tl_tree_edit.specs.View.{change_of, changes_of};
+ghost use Rattle.tl_tree_edit.specs.Inner.Walk.{Follows, IsNext, Meets, changed_by, left};
+ghost use Rattle.tl_tree_edit.specs.View.{change_of, changes_of, put_of, puts_of};
 
 use crate::attributes::is_changed;
-use crate::change::Change;
+use crate::change::{Change, Put};
 use crate::events::{Event, Events};
 use std::alloc::{AllocError, Global};
 use tl_tree::Tree;
@@ -133,18 +133,29 @@ impl Events<'_, '_> {
         Ok(true)
     }
 
-    // The same, if there is a tree.
-    pub(crate) fn meets_trees(
-        &mut self,
-        alloc: Global,
-        trees: Option<&Tree<'_>>,
-    ) -> Result<bool, AllocError>
-        ensures met { IfOk result
-            (Meets (put (put_in (option_copied trees.entry))) self.old self.new) }
+    // Whether all that is said of what is put in comes next.
+    fn meets_put(&mut self, alloc: Global, put: Put<'_, '_>) -> Result<bool, AllocError>
+        ensures met { IfOk result (Meets (told (put_of put.entry)) self.old self.new) }
         ensures tree { self.new.tree.now ≡ self.old.tree.now }
     {
-        match trees {
-            Some(trees) => self.meets_tree(alloc, trees),
+        match put {
+            Put::Trees(trees) => self.meets_tree(alloc, trees),
+            Put::Text(text) => self.meets_text(text),
+        }
+    }
+
+    // The same, if something is put in.
+    pub(crate) fn meets_puts(
+        &mut self,
+        alloc: Global,
+        put: Option<Put<'_, '_>>,
+    ) -> Result<bool, AllocError>
+        ensures met { IfOk result
+            (Meets (all_told (puts_of put.entry)) self.old self.new) }
+        ensures tree { self.new.tree.now ≡ self.old.tree.now }
+    {
+        match put {
+            Some(put) => self.meets_put(alloc, put),
             None => Ok(true),
         }
     }

@@ -83,13 +83,13 @@ impl<'c, 'p, 'n, 'q> Walk<'c, 'p, 'n, 'q> {
         let Some(change) = change else {
             return self.rest.meets_end();
         };
-        if !self.rest.meets_trees(self.alloc, change.back())? {
+        if !self.rest.meets_puts(self.alloc, change.back())? {
             return Ok(false);
         }
         if !self.rest.meets_own_end(change)? {
             return Ok(false);
         }
-        self.rest.meets_trees(self.alloc, change.behind())
+        self.rest.meets_puts(self.alloc, change.behind())
     }
 
     // Whether the ends of all rows come next that end before a row, or before the end of all.
@@ -172,13 +172,13 @@ impl<'c, 'p, 'n, 'q> Walk<'c, 'p, 'n, 'q> {
         ensures until { self.new.until ≡ self.old.until }
         ensures edits { edits_left self.new ≡ edits_left self.old }
     {
-        if !self.rest.meets_trees(self.alloc, change.before())? {
+        if !self.rest.meets_puts(self.alloc, change.before())? {
             return Ok(false);
         }
         if !self.rest.meets_own(old, number, change)? {
             return Ok(false);
         }
-        self.rest.meets_trees(self.alloc, change.front())
+        self.rest.meets_puts(self.alloc, change.front())
     }
 
     // A row is open now, with what is done to it.

@@ -6,7 +6,6 @@ use Rattle.tl_tree.specs.Rows.{Node, Row}
 use Rattle.tl_tree.specs.TreeView.{rows_in}
 use Rattle.tl_tree.specs.declared.kind.Kind.{Kind}
 use Rattle.tl_tree.specs.declared.kind.Kind.TheVariants as kinds
-use Rattle.tl_tree.specs.declared.tree.Tree.{Tree}
 use Rattle.tl_tree_edit.specs.Bare.{bare}
 use Rattle.tl_tree_edit.specs.Changes.{Change, Edit, changed, changed_node, is_emptied, last_of, steps_from}
 use Rattle.tl_tree_edit.specs.Events as spec
@@ -77,10 +76,6 @@ Follows says-now says-then left-now left-then false =
 -- what is left of a tree begins with these
 abbrev pub Meets : List spec.Event → Events → Events → Bool → Type 0
 Meets these old new is = Follows these [] (left old) (left new) is
-
--- the rows of trees that are put in
-abbrev pub put_in : Option Tree → Option (List Row)
-put_in trees = option_map rows_in trees
 
 abbrev pub changed_by : Option Change → Node → Node
 changed_by None node = node

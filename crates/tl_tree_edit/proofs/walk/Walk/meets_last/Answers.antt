@@ -7,8 +7,8 @@ returns-in_default-clause-met c = rw c.in_default.is c.meets_end.ensures.met
 
 pub returns-clause-met : goal.returns-clause-met
 returns-clause-met c =
-    let back = rw (c.if-not-branch.false, c.back.ensures) at c.in_ok-meets_trees.ensures.met in
+    let back = rw (c.if-not-branch.false, c.back.ensures) at c.in_ok-meets_puts.ensures.met in
     let own = rw c.if-not-branch-2.false at c.in_ok-meets_own_end.ensures.met in
-    let behind = rw c.behind.ensures at c.meets_trees-2.ensures.met in
+    let behind = rw c.behind.ensures at c.meets_puts-2.ensures.met in
     rw c.in-Some.is
-    (three c.meets_trees-2.result _ _ _ (left c.args.self.now.rest) (left c.meets_trees.new.self) (left c.meets_own_end.new.self) (left c.meets_trees-2.new.self) back own behind)
+    (three c.meets_puts-2.result _ _ _ (left c.args.self.now.rest) (left c.meets_puts.new.self) (left c.meets_own_end.new.self) (left c.meets_puts-2.new.self) back own behind)

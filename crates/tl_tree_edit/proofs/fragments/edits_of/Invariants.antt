@@ -1,0 +1,11 @@
+use Rattle.std.proofs.Common.{map, take, ◌≡◌}
+use Rattle.tl_tree.specs.TreeView.{rows_in}
+use Rattle.tl_tree_edit.specs.Inner.Contexts.{put_by}
+use Rattle.tl_tree_edit.specs.View.{edit_of}
+use Rattle.tl_tree_edit.proofs.fragments.edits_of.Given as goal
+
+-- those of the fragments so far
+abbrev pub invariant-loop-own : goal.invariant-loop-own
+invariant-loop-own l =
+    map edit_of l.edits.items
+    ≡ map (put_by (rows_in l.old) l.position) (take l.own-index l.fragments)
