@@ -74,6 +74,19 @@ Trees:
       <!-- end -->
   $ tl select -n 'a.next.big[href="/2"]' tree.html
   5
+  $ tl select --csv -a href -a title -t a tree.html
+  /2,t,Bread & butter
+
+Where links lead:
+
+  $ printf '<base href=/d/><a href=x>1</a><a href=//b.org/>2</a><a href="http://[">3</a>' >where.html
+  $ tl links --base https://a.org/ where.html
+  https://a.org/d/
+  https://a.org/d/x
+  https://b.org/
+  http://[
+  $ tl links --base https://a.org/ --external where.html
+  https://b.org/
 
 Selectors:
 

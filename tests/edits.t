@@ -236,7 +236,7 @@ A failed write leaves the old page, and nothing beside it.
   [4]
   $ mkdir folder
   $ tl set -i a k v folder
-  tl: folder: Is a directory (os error 21) (err)
+  tl: folder: a folder; folder/*.html names the pages in it (err)
   [4]
 
 Elements get another name, or go, or their tags alone.
@@ -597,25 +597,22 @@ What is refused.
   [2]
   $ printf '<a>\377' >bytes
   $ tl set -i a k v bytes
-  tl: bytes: no UTF-8 at byte 3 (err)
+  tl: bytes: no UTF-8 at byte 3; --encoding says what a page is in (err)
   [2]
   $ od -An -c bytes | tr -d ' \n'
   <a>377 (no-eol)
   $ printf '<\0?\0x\0m\0l\0 \0v\0?\0>\0<\0p\0>\0a\0' | tl set p k v
-  tl: -: UTF-16 is not changed (err)
-  [2]
+  <\x00?\x00x\x00m\x00l\x00 \x00v\x00?\x00>\x00<\x00p\x00 \x00k\x00=\x00"\x00v\x00"\x00>\x00a\x00 (esc) (no-eol)
   $ printf '<meta charset=latin1><p>a' | tl set p k é
-  tl: -: what is put is no ASCII, and the page says another encoding than UTF-8 (err)
-  [2]
+  <meta charset=latin1><p k="\xe9">a (esc) (no-eol)
   $ printf '<?xml version="1.0" encoding="koi8-r"?><p>a' | tl append p é
-  tl: -: what is put is no ASCII, and the page says another encoding than UTF-8 (err)
-  [2]
+  <?xml version="1.0" encoding="koi8-r"?><p>a&#233; (no-eol)
   $ printf '<meta charset=latin1><p>a' | tl set p k e
   <meta charset=latin1><p k="e">a (no-eol)
   $ printf '<meta charset=latin1><p>è' | tl set p k é
-  <meta charset=latin1><p k="é">è (no-eol)
+  <meta charset=latin1><p k="\xe9">è (esc) (no-eol)
   $ printf '<meta charset=iso-2022-jp><p>a' | tl set p k e
-  tl: -: ISO-2022-JP is not changed; iconv -f ISO-2022-JP makes UTF-8 of it (err)
+  tl: -: ISO-2022-JP is not changed; iconv -f ISO-2022-JP -t UTF-8 makes UTF-8 of it (err)
   [2]
   $ printf '<meta charset=utf-8><p>a' | tl set p k é
   <meta charset=utf-8><p k="é">a (no-eol)

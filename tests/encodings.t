@@ -515,13 +515,82 @@ With `--strict` a page with such bytes is refused, and what is wrong said by its
   $ printf 'caf\303\251' | tl text --strict
   café (no-eol)
 
-Edits are of pages in UTF-8 alone.
+Edits are in the page's own encoding, and each other byte stays. A reference stands for a character that it lacks, where the page is read
+as the same tree by it. A page with bytes that are wrong isn't changed.
 
-  $ printf '<p>\377' | tl set p k v
-  tl: -: no UTF-8 at byte 3 (err)
+  $ printf '<meta charset=latin1><p>caf\351\n' >latin.html
+  $ tl set -i p title 'é' latin.html
+  $ LC_ALL=C sed -n l latin.html
+  <meta charset=latin1><p title="\351">caf\351$
+  $ tl set -i p title 'Łódź' latin.html
+  $ LC_ALL=C sed -n l latin.html
+  <meta charset=latin1><p title="&#321;\363d&#378;">caf\351$
+  $ tl append p ' €Ł' latin.html | LC_ALL=C sed -n l
+  <meta charset=latin1><p title="&#321;\363d&#378;">caf\351$
+   \200&#321;$
+  $ tl before --html p '<b>Ł</b>' latin.html | LC_ALL=C sed -n l
+  <meta charset=latin1><b>&#321;</b><p title="&#321;\363d&#378;">caf\
+  \351$
+  $ tl before --html p '<!--Ł-->' latin.html
+  tl: latin.html: 'Ł' is not in windows-1252, and no reference can stand there (err)
   [2]
-  $ printf '\376\377\000<\000p' | tl set p k v
-  tl: -: no UTF-8 at byte 0 (err)
+  $ tl before --html p '<script>"Ł"</script>' latin.html
+  tl: latin.html: 'Ł' is not in windows-1252, and no reference can stand there (err)
+  [2]
+  $ tl before --html p '<title>Ł</title>' latin.html | LC_ALL=C sed -n l
+  <meta charset=latin1><title>&#321;</title><p title="&#321;\363d&#378;\
+  ">caf\351$
+  $ tl set -i p title 'Łódź' latin.html
+  $ tl set --dry-run p title x latin.html
+  latin.html:1:22
+  $ printf '<p>\351' | tl set --encoding koi8-r p k 'я' | LC_ALL=C sed -n l
+  <p k="\321">\351$
+  $ printf '<p>\351' | tl set --encoding nope p k v
+  tl: no label of an encoding: nope (err)
+  [2]
+  $ printf '\377\376<\000p\000>\000\351\000' | tl set p k '😀' | od -An -tx1
+   ff fe 3c 00 70 00 20 00 6b 00 3d 00 22 00 3d d8
+   00 de 22 00 3e 00 e9 00
+  $ printf '\376\377\000<\000p\000>\000\351' | tl remove p | od -An -tx1
+   fe ff
+  $ printf '<\000?\000x\000>\000<\000p\000>\000' | tl set p k v | od -An -tx1
+   3c 00 3f 00 78 00 3e 00 3c 00 70 00 20 00 6b 00
+   3d 00 22 00 76 00 22 00 3e 00
+  $ printf '\357\273\277<p>\303\251' | tl set p k 'é'
+  \u{feff}<p k="é">é (esc) (no-eol)
+  $ printf '<meta charset=x-user-defined><p>' | tl set p k 'é' | LC_ALL=C sed -n l
+  <meta charset=x-user-defined><p k="\351">$
+  $ printf '<p>\351' | tl set --encoding x-user-defined p k v | LC_ALL=C sed -n l
+  <p k="v">\351$
+  $ printf '<meta charset=sjis><p>a' | tl set p k 'テ'
+  <meta charset=sjis><p k="&#12486;">a (no-eol)
+  $ printf '<meta charset=sjis><p>\203e' | tl set p k v
+  tl: -: Shift_JIS is not changed; iconv -f Shift_JIS -t UTF-8 makes UTF-8 of it (err)
+  [2]
+  $ printf '<meta charset=gbk><p>\312\324' | tl set --encoding auto p k v
+  tl: -: GBK is not changed; iconv -f GBK -t UTF-8 makes UTF-8 of it (err)
+  [2]
+  $ printf '<meta charset=iso-2022-jp><p>a' | tl set p k v
+  tl: -: ISO-2022-JP is not changed; iconv -f ISO-2022-JP -t UTF-8 makes UTF-8 of it (err)
+  [2]
+  $ printf '<p>a' | tl set --encoding replacement p k v
+  tl: -: pages in this encoding are read by nothing, and not changed (err)
+  [2]
+  $ printf '<meta charset=latin1><p>café' | tl set p k 'é' | LC_ALL=C sed -n l
+  <meta charset=latin1><p k="\351">caf\303\251$
+  $ printf '<meta charset=latin1><p>café' | tl set --encoding auto p k 'é'
+  <meta charset=latin1><p k="é">café (no-eol)
+  $ printf '<meta charset=latin1><p>a' | tl set --encoding auto p k 'é'
+  tl: -: what is put is no ASCII, and the page says another encoding than UTF-8 (err)
+  [2]
+  $ printf '<p>\377' | tl set p k v
+  tl: -: no UTF-8 at byte 3; --encoding says what a page is in (err)
+  [2]
+  $ printf '<meta charset=windows-1253><p>\252' | tl set p k v
+  tl: -: no character at byte 30; --encoding says what a page is in (err)
+  [2]
+  $ printf '\376\377\000<\000p\000>\330\075' | tl set p k v
+  tl: -: no character at byte 8; --encoding says what a page is in (err)
   [2]
   $ printf '<p>a' | tl set --strict p k v
   error: unexpected argument '--strict' found (err)

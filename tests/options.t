@@ -6,10 +6,10 @@ Options beside one another.
 
 Of two that say where pages go, of two policies, and of two that say what is written of a node, one alone is taken.
 
-  $ for words in '-i --dry-run' '-i --backup .o' '--backup .o --dry-run'; do tl set $words p k v one 2>&1 | head -1; done
+  $ for words in '-i --dry-run' '--backup .o --dry-run' '--diff --dry-run'; do tl set $words p k v one 2>&1 | head -1; done
   error: the argument '--in-place' cannot be used with '--dry-run'
-  error: the argument '--in-place' cannot be used with '--backup <SUFFIX>'
   error: the argument '--backup <SUFFIX>' cannot be used with '--dry-run'
+  error: the argument '--diff' cannot be used with '--dry-run'
   $ tl sanitize --comments --documents one 2>&1 | head -1
   error: the argument '--comments' cannot be used with '--documents'
   $ for flag in '-a a.b' -t -H -n -c; do tl select --tree $flag p one 2>&1 | head -1; done

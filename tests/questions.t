@@ -242,6 +242,174 @@ Links, in the order of nodes and keys.
   p
   f
 
+Of some attributes alone.
+
+  $ printf '<a href=1><img SRC=2><a ping="3 4" href=5>' >some
+  $ tl links -a src some
+  2
+  $ tl links -a HREF -a ping some
+  1
+  3
+  4
+  5
+  $ tl links -a cite some
+  [1]
+  $ printf '<svg><a xlink:href=1></a></svg>' | tl links -a href
+  1
+
+Where links lead: from the URL of the page and its first base.
+
+  $ printf '<a href=x><a href="/y?a b"><a href="#z"><a href=""><a href=mailto:m@n><a href="HTTP://B.org">' >led
+  $ tl links --base https://a.org/d/e.html led
+  https://a.org/d/x
+  https://a.org/y?a%20b
+  https://a.org/d/e.html#z
+  https://a.org/d/e.html
+  mailto:m@n
+  http://b.org/
+  $ tl links --base https://a.org/d/e.html --internal led
+  https://a.org/d/x
+  https://a.org/y?a%20b
+  https://a.org/d/e.html#z
+  https://a.org/d/e.html
+  $ tl links --base https://a.org/d/e.html --external led
+  mailto:m@n
+  http://b.org/
+  $ printf '<a href=x><base><base href=https://b.org/f/><base href=/g/>' | tl links --base https://a.org/
+  https://b.org/f/x
+  https://b.org/f/
+  https://b.org/g/
+  $ printf '<a href=x><base href=https://b.org/f/>' | tl links --base https://a.org/ --internal
+  [1]
+  $ printf '<base href=javascript:1><a href=x>' | tl links --base https://a.org/ -a href
+  javascript:1
+  https://a.org/x
+  $ printf '<template><base href=/t/></template><a href=x>' | tl links --base https://a.org/
+  https://a.org/x
+  $ printf '<a href="http://["><a href=x>' | tl links --base https://a.org/
+  http://[
+  https://a.org/x
+  $ printf '<a href="http://["><a href=x>' | tl links --base https://a.org/ --internal
+  https://a.org/x
+  $ printf '<a href="http://[">' | tl links --base https://a.org/ --external
+  [1]
+  $ printf '<img srcset="a 1x, b 2x">' | tl links --base https://a.org/
+  https://a.org/a
+  https://a.org/b
+  $ printf '<a href=x>' | tl links -q --base https://a.org/ --external
+  [1]
+
+A base of more than 4096 bytes counts for nothing.
+
+  $ python3 -c 'print("<base href=/" + "a" * 4094 + "/><a href=x>", end="")' | tl links --base https://a.org/ | tail -1 | wc -c
+  4111
+  $ python3 -c 'print("<base href=/" + "a" * 4095 + "/><a href=x>", end="")' | tl links --base https://a.org/ | tail -1
+  https://a.org/x
+
+What is no URL; hosts without a base.
+
+  $ tl links --base a.org led
+  tl: no URL: a.org: relative URL without a base (err)
+  [2]
+  $ tl links --internal led
+  error: the following required arguments were not provided: (err)
+  ...
+  [2]
+  $ tl links --base https://a.org --internal --external led
+  error: the argument '--internal' cannot be used with '--external' (err)
+  ...
+  [2]
+
+Values of nodes in columns, of several keys, or of keys and the text.
+
+  $ printf '<a href=1 class="b c" title="x\ty">T <b>u</b>\n</a><A HREF="2,3">v</A><a>"</a><svg><a viewBox=4 /></svg>' >rows
+  $ tl select -a href -a class a rows
+  1\x09b c (esc)
+  2,3\x09 (esc)
+  \x09 (esc)
+  \x09 (esc)
+  $ tl select -a title -t a rows
+  x\x5cty\x09T u (esc)
+  \x09v (esc)
+  \x09" (esc)
+  \x09 (esc)
+  $ tl select -a HREF -a viewBox --csv a rows
+  1,
+  "2,3",
+  ,
+  ,4
+  $ tl select -t --csv a rows
+  T u
+  v
+  """"
+  ""
+  $ tl select -a href --tsv -m2 a rows
+  1
+  2,3
+  $ tl select -a href -a class -c a rows
+  error: the argument '--attribute <KEY>' cannot be used with '--count' (err)
+  ...
+  [2]
+  $ tl select -q -a href -a class a rows
+  $ tl select -l -a href -a class a rows
+  rows
+  $ tl select -a href -a class i rows
+  [1]
+  $ tl select --csv a rows
+  tl: no column: say -a KEY or -t (err)
+  [2]
+  $ tl select --csv --tsv -t a rows
+  error: the argument '--csv' cannot be used with '--tsv' (err)
+  ...
+  [2]
+  $ tl select -a href -a class a rows rows | head -2
+  rows:1\x09b c (esc)
+  rows:2,3\x09 (esc)
+
+Where nodes begin. Of one that browsers put in it is where the next one does; columns are characters.
+
+  $ printf '<p>a\n<p id=x>\303\251<b>c</b><table><td>d' >places
+  $ tl select --where b places
+  places:2:10:<b>c</b>
+  $ tl select --where -a id p places
+  places:2:1:x
+  $ tl select --where -n tbody places
+  places:2:25:10
+  $ tl select --where -t html places - <places
+  places:1:1:a
+  places:écd
+  -:1:1:a
+  -:écd
+  $ tl select --where -t td --no-name places
+  2:25:d
+  $ tl select --where -t td <places
+  2:25:d
+  $ tl select --where i places
+  [1]
+  $ tl select --where -c b places
+  error: the argument '--where' cannot be used with '--count' (err)
+  ...
+  [2]
+  $ tl select --where -a id -a class b places
+  tl: no place beside several columns: leave out --where (err)
+  [2]
+
+Tables with tabs, and with the words of a cell that spans once.
+
+  $ printf '<table><tr><td colspan=2 rowspan=2>a<td>b,c<tr><td>d</table>' >spans
+  $ tl table spans
+  a,a,"b,c"
+  a,a,d
+  $ tl table --as-written spans
+  a,,"b,c"
+  ,,d
+  $ tl table --tsv spans
+  a\x09a\x09b,c (esc)
+  a\x09a\x09d (esc)
+  $ tl table --tsv --as-written spans
+  a\x09\x09b,c (esc)
+  \x09\x09d (esc)
+
 Values and texts, by what they say.
 
   $ printf '<a k="&lt;b&gt; &amp;amp;">&lt;c&gt;</a>' | tl select -a k a

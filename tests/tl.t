@@ -529,7 +529,7 @@ Nothing was found, or something is refused or not understood.
   tl: -: Bad file descriptor (os error 9) (err)
   [4]
   $ mkdir folder && tl print folder
-  tl: folder: Is a directory (os error 21) (err)
+  tl: folder: a folder; folder/*.html names the pages in it (err)
   [4]
   $ tl print one "$(printf 'caf\351')"
   tl: words: no UTF-8 (err)
@@ -905,7 +905,7 @@ Pages that can't be had are passed over, and the greatest status counts.
   tl: none: No such file or directory (os error 2) (err)
   [4]
   $ tl sanitize .
-  tl: .: Is a directory (os error 21) (err)
+  tl: .: a folder; ./*.html names the pages in it (err)
   [4]
 
 Help names each command and each option, and words the lists.
@@ -952,6 +952,7 @@ Help names each command and each option, and words the lists.
   $ tl select --help >help && grep -oE -e '--[a-z-]+' help | sort -u
   --attribute
   --count
+  --csv
   --encoding
   --files-with-matches
   --first
@@ -966,6 +967,8 @@ Help names each command and each option, and words the lists.
   --strict
   --text
   --tree
+  --tsv
+  --where
   $ tl sanitize --help >help && grep -oE -e '--[a-z-]+' help | sort -u
   --classes
   --comments
@@ -985,16 +988,23 @@ Help names each command and each option, and words the lists.
   $ for command in set unset rename remove unwrap replace fill prepend append before after; do tl $command --help; done | grep -oE -e '--[a-z-]+' | sort -u
   --add-word
   --backup
+  --base
+  --diff
+  --drop-query
   --dry-run
+  --encoding
   --from
+  --from-text
   --help
   --html
   --in-place
   --literal
+  --ok
   --prefix
   --remove-word
   --replace
   --suffix
+  --verbose
   $ grep -o '^WORDS have commas between them' help
   WORDS have commas between them
   $ tl --help | grep -o '^It ends with 0: all is done'

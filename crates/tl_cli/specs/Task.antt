@@ -1,6 +1,6 @@
 -- What is made of a page.
 use Rattle.std.specs.Prelude.{List, true, ℕ, ⊤, ◌≡◌}
-use Rattle.tl_answers.specs.Answers.{AreNone, AreSelected, Matches}
+use Rattle.tl_answers.specs.Answers.{AreNone, AreSelected, AsksForUrls, Matches}
 use Rattle.tl_answers.specs.Findings.{Finding, whole}
 use Rattle.tl_answers.specs.Pages.{HasLargeTableAt, IsAnswered, IsUnread, searched}
 use Rattle.tl_answers.specs.declared.error.AnswerError.{AnswerError}
@@ -9,7 +9,7 @@ use Rattle.tl_answers.specs.declared.question.Question.{Question}
 use Rattle.tl_cli.specs.declared.task.Task.{Task}
 use Rattle.tl_cli.specs.declared.task.Task.TheVariants.{Ask, Sanitize}
 use Rattle.tl_cli.specs.declared.task.Unmade.{Unmade}
-use Rattle.tl_cli.specs.declared.task.Unmade.TheVariants.{Failed, LargeTable, OutOfProportion, TooLarge}
+use Rattle.tl_cli.specs.declared.task.Unmade.TheVariants.{Failed, LargeTable, LongUrl, OutOfProportion, TooLarge}
 use Rattle.tl_html_spec.specs.HtmlTokenizer.{without_mark}
 use Rattle.tl_page.specs.Page.{IsPage}
 use Rattle.tl_page.specs.declared.failure.Failure.{Failure}
@@ -52,6 +52,7 @@ IsUnanswered question page (Failed failure) = IsNoPage page failure
 IsUnanswered question page (OutOfProportion at) = IsUnread page (unread.OutOfProportion at)
 IsUnanswered question page TooLarge = ⊤
 IsUnanswered question page (LargeTable at) = HasLargeTableAt question page at
+IsUnanswered question page LongUrl = AsksForUrls question
 
 -- why it isn't made safe; bytes are counted behind a byte order mark
 abbrev pub IsUnsafe : List ℕ → Unmade → Type 0
@@ -60,6 +61,7 @@ IsUnsafe page (OutOfProportion at) =
     IsUnreadInDiv (without_mark page) (unread.OutOfProportion at)
 IsUnsafe page TooLarge = ⊤
 IsUnsafe page (LargeTable at) = ⊥
+IsUnsafe page LongUrl = ⊥
 
 -- why a task makes nothing of it
 abbrev pub IsUnmade : Task → List ℕ → Unmade → Type 0
@@ -75,4 +77,5 @@ unmade_of (unread.OutOfProportion at) = OutOfProportion at
 abbrev pub unanswered_of : AnswerError → Unmade
 unanswered_of (unanswered.Unread error) = unmade_of error
 unanswered_of (unanswered.LargeTable at) = LargeTable at
+unanswered_of unanswered.LongUrl = LongUrl
 unanswered_of unanswered.OutOfMemory = Failed OutOfMemory

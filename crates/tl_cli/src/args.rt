@@ -6,6 +6,7 @@ ghost use Rattle.tl_cli.specs.declared.args.UsageError.TheVariants.{OutOfMemory}
 
 use crate::edit_words;
 use crate::edit_words::patching;
+use crate::links::Links;
 use crate::patching::Patching;
 use crate::selected::{Selected, Wanted};
 use crate::task::Task;
@@ -14,12 +15,14 @@ use crate::texts::{TextForm, Texts};
 use clap::error::ErrorKind;
 use clap::{ArgMatches, Error};
 use std::alloc::{AllocError, Global};
-use tl_answers::Question;
+use tl_answers::{Hosts, Question, TableQuery};
 use tl_commands::{Verb, program};
 use tl_css::{Selector, SelectorError, parse};
 use tl_encoding::Encoding;
 use tl_page::VERSION;
+use tl_tree_extract::{Columns, Spans};
 use tl_tree_safe::{ListTexts, Lists};
+use url::{ParseError, Url};
 
 /// What is written of pages.
 #[derive(Clone, Copy, PartialEq, Eq)]
@@ -51,6 +54,8 @@ pub struct Pages<'w> {
     pub ends_with_zero: bool,
     /// Whether the name of its file stands before each line, where there are several.
     pub has_names: bool,
+    /// Whether what is written says where it stands, so that the name is said of one file too.
+    pub has_places: bool,
     /// What is written of them.
     pub writing: Writing,
     /// What tells what they are in.
@@ -63,7 +68,8 @@ pub struct Pages<'w> {
 impl Pages<'_> {
     /// Whether the names of files are said beside what is made of them.
     pub fn are_named(&self) -> bool {
-        self.has_names && self.files.len() > 1
+        let least = if self.has_places { 1 } else { 2 };
+        self.has_names && self.files.len() >= least
     }
 
     /// What ends each answer.
@@ -79,6 +85,8 @@ pub enum Action<'w> {
     Task(Task<'w>),
     /// What is selected.
     Select(Selected<'w>),
+    /// Where links lead.
+    Links(Links<'w>),
     /// What texts say.
     Text(Texts),
     /// What is changed where a selector holds.
@@ -115,10 +123,20 @@ pub enum UsageError<'w> {
     NoLiteral,
     /// A text that is no regular expression, and why.
     NoRegex(regex::Error, &'w str),
+    /// A text that is no pattern of names.
+    NoNames(&'w str),
     /// Standard input is to be changed in its file.
     NoFile,
+    /// Standard input is to be a page and what is put.
+    InputTwice,
     /// The suffix of a backup is empty.
     NoSuffix,
+    /// A text that is no URL, and why.
+    NoUrl(ParseError, &'w str),
+    /// It isn't said of what columns are.
+    NoColumn,
+    /// Places are asked for beside columns.
+    NoPlace,
     /// A label of no encoding.
     NoEncoding(&'w str),
     /// A word that is no number of nodes.
@@ -182,12 +200,39 @@ fn wanted_answers(matches: &ArgMatches<'_>) -> Wanted {
     }
 }
 
+// How values of nodes are told apart, where each node has a line of them: of several keys, of a key
+// and the text, and where it is said.
+fn columns_of(matches: &ArgMatches<'_>, keys: usize) -> Option<Columns> {
+    if matches.get_flag("csv") {
+        return Some(Columns::Commas);
+    }
+    let has_several = keys > 1 || keys == 1 && matches.get_flag("text");
+    (has_several || matches.get_flag("tsv")).then_some(Columns::Tabs)
+}
+
 // What is looked for of each node. Where no node is written it is what takes least.
-fn wanted(matches: &ArgMatches<'_>) -> Wanted {
-    match (writing_of(matches), matches.get_str("attribute")) {
-        (Writing::Answers, _) => wanted_answers(matches),
-        (_, Some(_)) => Wanted::Value,
-        (_, None) => Wanted::Count,
+fn wanted<'w>(matches: &ArgMatches<'w>, keys: usize) -> Result<Wanted, UsageError<'w>> {
+    let columns = columns_of(matches, keys);
+    let has_text = matches.get_flag("text");
+    if columns.is_some() && keys == 0 && !has_text {
+        return Err(UsageError::NoColumn);
+    }
+    if columns.is_some() && matches.get_flag("where") {
+        return Err(UsageError::NoPlace);
+    }
+    Ok(match (writing_of(matches), columns) {
+        (Writing::Answers, Some(columns)) => Wanted::Records(columns, has_text),
+        (Writing::Answers, None) => wanted_answers(matches),
+        (_, None) if keys == 1 => Wanted::Value,
+        (_, _) => Wanted::Count,
+    })
+}
+
+// The keys that are said.
+fn keys<'w>(alloc: Global, matches: &ArgMatches<'w>) -> Result<Vec<&'w str>, AllocError> {
+    match matches.get_strs("attribute") {
+        Some(keys) => Vec::from_slice(alloc, keys),
+        None => Ok(Vec::new(alloc)),
     }
 }
 
@@ -216,11 +261,46 @@ pub fn selector<'w>(alloc: Global, text: &'w str) -> Result<Selector, UsageError
 
 // What is selected.
 fn selected<'w>(alloc: Global, matches: &ArgMatches<'w>) -> Result<Selected<'w>, UsageError<'w>> {
+    let keys = keys(alloc, matches)?;
     Ok(Selected {
         selector: selector(alloc, matches.get_str("SELECTOR").unwrap_or(""))?,
-        key: matches.get_str("attribute").unwrap_or(""),
-        wanted: wanted(matches),
+        wanted: wanted(matches, keys.len())?,
+        keys,
+        is_placed: matches.get_flag("where"),
         most: most(matches)?,
+    })
+}
+
+/// The URL that a text says.
+pub fn url<'w>(alloc: Global, text: &'w str) -> Result<Url, UsageError<'w>> {
+    match Url::parse(alloc, text) {
+        Ok(url) => Ok(url),
+        Err(ParseError::OutOfMemory) => Err(UsageError::OutOfMemory),
+        Err(error) => Err(UsageError::NoUrl(error, text)),
+    }
+}
+
+// The URL of the page, if it is said.
+fn base<'w>(alloc: Global, matches: &ArgMatches<'w>) -> Result<Option<Url>, UsageError<'w>> {
+    let Some(text) = matches.get_str("base") else {
+        return Ok(None);
+    };
+    Ok(Some(url(alloc, text)?))
+}
+
+// Which links are meant, and how they are written.
+fn links<'w>(alloc: Global, matches: &ArgMatches<'w>) -> Result<Links<'w>, UsageError<'w>> {
+    let hosts = if matches.get_flag("internal") {
+        Hosts::Own
+    } else if matches.get_flag("external") {
+        Hosts::Other
+    } else {
+        Hosts::Any
+    };
+    Ok(Links {
+        keys: keys(alloc, matches)?,
+        base: base(alloc, matches)?,
+        hosts,
     })
 }
 
@@ -253,6 +333,25 @@ fn texts<'w>(alloc: Global, matches: &ArgMatches<'w>) -> Result<Texts, UsageErro
         form: text_form(matches),
         inside: selector_at(alloc, matches, "in")?,
         left_out: selector_at(alloc, matches, "not")?,
+    })
+}
+
+// Which table is meant, and how it is written.
+fn table<'w>(matches: &ArgMatches<'w>) -> Result<TableQuery, UsageError<'w>> {
+    let columns = if matches.get_flag("tsv") {
+        Columns::Tabs
+    } else {
+        Columns::Commas
+    };
+    let spans = if matches.get_flag("as-written") {
+        Spans::Once
+    } else {
+        Spans::Filled
+    };
+    Ok(TableQuery {
+        number: table_number(matches)?,
+        columns,
+        spans,
     })
 }
 
@@ -313,12 +412,13 @@ fn action_of<'w>(
     verb: Verb,
     matches: &ArgMatches<'w>,
     files: &[&str],
+    text: Option<&'w str>,
 ) -> Result<Action<'w>, UsageError<'w>> {
     let question = match verb {
         Verb::Select => return Ok(Action::Select(selected(alloc, matches)?)),
-        Verb::Links => Question::Links,
+        Verb::Links => return Ok(Action::Links(links(alloc, matches)?)),
         Verb::Text => return Ok(Action::Text(texts(alloc, matches)?)),
-        Verb::Table => Question::Table(table_number(matches)?),
+        Verb::Table => Question::Table(table(matches)?),
         Verb::Print if matches.get_flag("pretty") => Question::PrettyPrint,
         Verb::Print => Question::Print,
         Verb::Outline => Question::Outline(matches.get_flag("number")),
@@ -331,7 +431,7 @@ fn action_of<'w>(
             return Ok(Action::Patch(patching(alloc, edit, matches, files)?));
         }
         Verb::Element(own) => {
-            let edit = edit_words::element(alloc, own, matches)?;
+            let edit = edit_words::element(alloc, own, matches, text)?;
             return Ok(Action::Patch(patching(alloc, edit, matches, files)?));
         }
         Verb::Sanitize if matches.get_flag("policy") => return Ok(Action::Policy(lists(matches))),
@@ -364,6 +464,7 @@ fn pages_of<'w>(
         files,
         ends_with_zero: matches.get_flag("null"),
         has_names: !matches.get_flag("no-name"),
+        has_places: matches.get_flag("where"),
         writing: writing_of(matches),
         encoding: told_encoding(matches)?,
         is_strict: matches.get_flag("strict"),
@@ -371,10 +472,22 @@ fn pages_of<'w>(
     })
 }
 
-/// What words ask for; the first is the name of the program.
+impl<'w> Args<'w> {
+    /// The file that has the text that is put, where one is named.
+    pub fn text_file(&self) -> Option<&'w str> {
+        match &self.action {
+            Action::Patch(patching) => patching.text_file,
+            _ => None,
+        }
+    }
+}
+
+/// What words ask for, where a file that they name for what is put has this text; the first is the
+/// name of the program.
 pub fn read<'w>(
     alloc: Global,
     words: &'w [String],
+    text: Option<&'w str>,
     terminal: Terminal,
 ) -> Result<Args<'w>, UsageError<'w>> {
     let matches = program(alloc, VERSION)?.try_get_matches_from(words)?;
@@ -386,7 +499,7 @@ pub fn read<'w>(
     };
     let files = files(alloc, own)?;
     Ok(Args {
-        action: action_of(alloc, verb, own, files.as_slice())?,
+        action: action_of(alloc, verb, own, files.as_slice(), text)?,
         pages: pages_of(own, files, terminal)?,
     })
 }

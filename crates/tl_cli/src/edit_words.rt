@@ -1,7 +1,8 @@
 //! What the words of a command ask to be changed.
 
-use crate::args::{UsageError, selector};
+use crate::args::{UsageError, selector, url};
 use crate::patching::{Patching, Target};
+use crate::telling::Tellings;
 use clap::ArgMatches;
 use regex::Error;
 use std::alloc::Global;
@@ -63,6 +64,29 @@ fn replacement<'w>(
     Ok(Some(Rewrite::Replace { sought, put }))
 }
 
+// A pattern of names, with one `*` at most.
+fn names(said: &str) -> Result<&str, UsageError<'_>> {
+    let stars = said.bytes().filter(|byte| *byte == b'*').count();
+    if said.is_empty() || stars > 1 {
+        return Err(UsageError::NoNames(said));
+    }
+    Ok(said)
+}
+
+// How a URL is made of an old one, if an option says that.
+fn url_rewrite<'w>(
+    alloc: Global,
+    matches: &ArgMatches<'w>,
+) -> Result<Option<Rewrite<'w>>, UsageError<'w>> {
+    if let Some(said) = matches.get_str("base") {
+        return Ok(Some(Rewrite::Absolute(url(alloc, said)?)));
+    }
+    match matches.get_str("drop-query") {
+        Some(said) => Ok(Some(Rewrite::DropQuery(names(said)?))),
+        None => Ok(None),
+    }
+}
+
 // How a value is made of an old one, if an option says that.
 fn rewrite<'w>(
     alloc: Global,
@@ -83,21 +107,30 @@ fn rewrite<'w>(
     if matches.get_str("from").is_some() {
         return Ok(Some(Rewrite::CopyOf(key_at(alloc, matches, "from")?)));
     }
-    replacement(alloc, matches)
+    if matches.get_flag("from-text") {
+        return Ok(Some(Rewrite::FromText));
+    }
+    match url_rewrite(alloc, matches)? {
+        Some(rewrite) => Ok(Some(rewrite)),
+        None => replacement(alloc, matches),
+    }
 }
 
 /// Whether an option says how a value is made.
 pub fn is_rewrite(matches: &ArgMatches<'_>) -> bool {
-    [
+    let has_option = [
         "prefix",
         "suffix",
         "add-word",
         "remove-word",
         "from",
+        "base",
+        "drop-query",
         "replace",
     ]
     .iter()
-    .any(|option| matches.get_strs(option).is_some())
+    .any(|option| matches.get_strs(option).is_some());
+    has_option || matches.get_flag("from-text")
 }
 
 // The name that is said, in lower case.
@@ -110,9 +143,29 @@ fn name<'w>(alloc: Global, matches: &ArgMatches<'w>) -> Result<String, UsageErro
     Ok(name)
 }
 
-// What is put.
-fn content<'w>(matches: &ArgMatches<'w>) -> Content<'w> {
-    let said = matches.get_str("TEXT").unwrap_or("").as_bytes();
+// The file that has the text that is put, where one is named: `@FILE`, but not `@@`, which is an
+// `@` of the text.
+fn text_file<'w>(matches: &ArgMatches<'w>) -> Option<&'w str> {
+    let file = matches.get_str("TEXT")?.strip_prefix('@')?;
+    if file.starts_with('@') {
+        None
+    } else {
+        Some(file)
+    }
+}
+
+// The text that is put, as it is said.
+fn text_said<'w>(matches: &ArgMatches<'w>) -> &'w str {
+    let said = matches.get_str("TEXT").unwrap_or("");
+    match said.strip_prefix('@') {
+        Some(text) if text.starts_with('@') => text,
+        _ => said,
+    }
+}
+
+// What is put: this text of a file, or else what is said.
+fn content<'w>(matches: &ArgMatches<'w>, text: Option<&'w str>) -> Content<'w> {
+    let said = text.unwrap_or(text_said(matches)).as_bytes();
     if matches.get_flag("html") {
         Content::Markup { markup: said }
     } else {
@@ -137,13 +190,14 @@ pub fn unset<'w>(alloc: Global, matches: &ArgMatches<'w>) -> Result<Edit<'w>, Us
     Ok(Edit::Unset(key_at(alloc, matches, "KEY")?))
 }
 
-/// What is done with elements.
+/// What is done with elements, where the file that is named for what is put has this text.
 pub fn element<'w>(
     alloc: Global,
     verb: ElementVerb,
     matches: &ArgMatches<'w>,
+    text: Option<&'w str>,
 ) -> Result<Edit<'w>, UsageError<'w>> {
-    let content = content(matches);
+    let content = content(matches, text);
     let patch = match verb {
         ElementVerb::Rename => return Ok(Edit::Rename(name(alloc, matches)?)),
         ElementVerb::Remove => ElementPatch::Remove,
@@ -181,6 +235,15 @@ fn target<'w>(matches: &ArgMatches<'w>, files: &[&str]) -> Result<Target<'w>, Us
     Ok(Target::Files(suffix))
 }
 
+// What is told of changes.
+fn tellings(matches: &ArgMatches<'_>) -> Tellings {
+    Tellings {
+        has_diff: matches.get_flag("diff"),
+        is_verbose: matches.get_flag("verbose"),
+        is_ok: matches.get_flag("ok"),
+    }
+}
+
 /// What is changed where a selector holds.
 pub fn patching<'w>(
     alloc: Global,
@@ -188,9 +251,15 @@ pub fn patching<'w>(
     matches: &ArgMatches<'w>,
     files: &[&str],
 ) -> Result<Patching<'w>, UsageError<'w>> {
+    let text_file = text_file(matches);
+    if text_file == Some("-") && has_standard_input(files) {
+        return Err(UsageError::InputTwice);
+    }
     Ok(Patching {
         selector: selector(alloc, matches.get_str("SELECTOR").unwrap_or(""))?,
         edit,
+        text_file,
         target: target(matches, files)?,
+        tellings: tellings(matches),
     })
 }

@@ -3,15 +3,15 @@ use crate::args::Pages;
 use crate::selected::Selected;
 use crate::task::{Task, Unmade, execute};
 use std::alloc::Global;
-use tl_answers::Output;
+use tl_answers::{Key, Output};
 
 /// What is done with each page.
 #[derive(Clone, Copy)]
 pub enum Job<'j, 'w> {
     /// One task, the same for each.
     Task(&'j Task<'w>),
-    /// What is selected, where this is its key in lower case.
-    Select(&'j Selected<'w>, &'j str),
+    /// What is selected, where these are its keys.
+    Select(&'j Selected<'w>, &'j [Key<'j>]),
 }
 
 impl Job<'_, '_> {
@@ -33,9 +33,9 @@ impl Job<'_, '_> {
     ) -> Result<Output, Unmade> {
         match self {
             Job::Task(task) => execute(alloc, task, pages.end(), text),
-            Job::Select(selected, key) => {
+            Job::Select(selected, keys) => {
                 let name = if pages.are_named() { Some(file) } else { None };
-                let task = Task::Ask(selected.question(key, name));
+                let task = Task::Ask(selected.question(keys, name));
                 execute(alloc, &task, pages.end(), text)
             }
         }

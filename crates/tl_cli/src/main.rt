@@ -11,31 +11,40 @@ mod crossed;
 mod edit_words;
 mod filename;
 mod in_place;
+mod in_place_words;
 mod job;
+mod links;
 mod misread;
+mod own_bytes;
 mod pages;
 mod patching;
 mod position;
 mod reports;
 mod selected;
 mod task;
+mod telling;
 mod terminal;
 mod texts;
+mod unread;
 
-use args::{Action, Pages, UsageError, read};
+use args::{Action, Args, Pages, UsageError, read};
 use clap::Error;
+use in_place_words::words_read;
 use job::Job;
-use pages::{process_pages, report_failure, unwritten_status, write};
+use links::Links;
+use pages::{
+    not_understood, page_of, process_pages, report_error, report_failure, unwritten_status, write,
+};
 use patching::patch_pages;
 use reports::exit_status;
-use selected::Selected;
+use selected::{Selected, keys_of, lower_words, texts_of};
 use std::alloc::AllocError;
 use std::env;
 use std::io::ErrorKind;
 use std::process::ExitCode;
 use task::Task;
 use terminal::Terminal;
-use tl_page::{Cause, Failure};
+use tl_page::{Cause, Failure, text};
 use tl_tree_safe::{ListTexts, Lists, Policy, WordLists, lines_of};
 
 fn main(rt: HostRuntime) -> ExitCode {
@@ -56,7 +65,7 @@ fn arguments(rt: &HostRuntime) -> Result<Vec<String>, Failure> {
     for word in given {
         words.push(word).map_err(AllocError::from)?;
     }
-    Ok(words)
+    Ok(words_read(rt.alloc(), words)?)
 }
 
 // Why there are no words, once it is said.
@@ -71,20 +80,48 @@ fn no_words(rt: &HostRuntime, failure: Failure) -> Failure
     failure
 }
 
+// Does what is asked for, and answers the status.
+fn act(rt: &HostRuntime, args: &Args<'_>) -> Result<u8, Failure> {
+    match &args.action {
+        Action::Task(task) => process(rt, task, &args.pages),
+        Action::Select(selected) => select(rt, selected, &args.pages),
+        Action::Links(links) => write_links(rt, links, &args.pages),
+        Action::Text(texts) => process(rt, &Task::Ask(texts.question()), &args.pages),
+        Action::Patch(patching) => patch_pages(rt, patching, &args.pages),
+        Action::Safe(texts) => sanitize(rt, texts, &args.pages),
+        Action::Policy(texts) => write_policy(rt, texts),
+    }
+}
+
+// Does what the words ask for, where what is put stands in a file.
+fn act_with_text(rt: &HostRuntime, words: &[String], file: &str) -> Result<u8, Failure> {
+    let bytes = match page_of(rt, file) {
+        Ok(bytes) => bytes,
+        Err(error) => return Err(report_error(rt, file, &error)),
+    };
+    let text = match text(bytes.as_slice()) {
+        Ok(text) => text,
+        Err(error) => {
+            let _ = not_understood(rt, file, &error);
+            return Err(Failure::NotUnderstood);
+        }
+    };
+    match read(rt.alloc(), words, Some(text), Terminal::new(rt)) {
+        Ok(args) => act(rt, &args),
+        Err(usage_error) => report_usage_error(rt, &usage_error),
+    }
+}
+
 // Does what the words ask for, and answers the status. What fails was said then.
 fn run(rt: &HostRuntime) -> Result<u8, Failure> {
     let words = match arguments(rt) {
         Ok(words) => words,
         Err(failure) => return Err(no_words(rt, failure)),
     };
-    match read(rt.alloc(), &words, Terminal::new(rt)) {
-        Ok(args) => match &args.action {
-            Action::Task(task) => process(rt, task, &args.pages),
-            Action::Select(selected) => select(rt, selected, &args.pages),
-            Action::Text(texts) => process(rt, &Task::Ask(texts.question()), &args.pages),
-            Action::Patch(patching) => patch_pages(rt, patching, &args.pages),
-            Action::Safe(texts) => sanitize(rt, texts, &args.pages),
-            Action::Policy(texts) => write_policy(rt, texts),
+    match read(rt.alloc(), &words, None, Terminal::new(rt)) {
+        Ok(args) => match args.text_file() {
+            Some(file) => act_with_text(rt, &words, file),
+            None => act(rt, &args),
         },
         Err(usage_error) => report_usage_error(rt, &usage_error),
     }
@@ -130,6 +167,12 @@ fn report_usage_error(rt: &HostRuntime, usage_error: &UsageError<'_>) -> Result<
         UsageError::NoRegex(error, text) => {
             let _ = eprintln!(rt; "tl: no regular expression: {text}: {error}");
         }
+        UsageError::NoNames(text) => {
+            let _ = eprintln!(rt; "tl: no names, in which one * may stand: '{text}'");
+        }
+        UsageError::InputTwice => {
+            let _ = eprintln!(rt; "tl: standard input is no page where it is what is put");
+        }
         UsageError::NoFile => {
             let _ = eprintln!(rt; "tl: standard input has no file to be written");
         }
@@ -138,6 +181,15 @@ fn report_usage_error(rt: &HostRuntime, usage_error: &UsageError<'_>) -> Result<
         }
         UsageError::NoTable(word) => {
             let _ = eprintln!(rt; "tl: no number of a table: {word}");
+        }
+        UsageError::NoUrl(error, text) => {
+            let _ = eprintln!(rt; "tl: no URL: {text}: {error}");
+        }
+        UsageError::NoPlace => {
+            let _ = eprintln!(rt; "tl: no place beside several columns: leave out --where");
+        }
+        UsageError::NoColumn => {
+            let _ = eprintln!(rt; "tl: no column: say -a KEY or -t");
         }
         UsageError::NoEncoding(label) => {
             let _ = eprintln!(rt; "tl: no label of an encoding: {label}");
@@ -150,13 +202,13 @@ fn report_usage_error(rt: &HostRuntime, usage_error: &UsageError<'_>) -> Result<
     Err(Failure::NotUnderstood)
 }
 
-// The key of the values that are selected, in lower case.
-fn key_of(rt: &HostRuntime, selected: &Selected<'_>) -> Result<String, Failure>
+// What is made of the words, or want of memory, once it is said.
+fn made<T: Drop>(rt: &HostRuntime, it: Result<T, AllocError>) -> Result<T, Failure>
     ensures { IfErr result (λ failure. failure ≡ NoMemory) }
 {
-    match selected.lower_key(rt.alloc()) {
-        Ok(key) => Ok(key),
-        Err(_) => Err(report_failure(rt, "key", Failure::OutOfMemory)),
+    match it {
+        Ok(it) => Ok(it),
+        Err(AllocError) => Err(report_failure(rt, "words", Failure::OutOfMemory)),
     }
 }
 
@@ -168,9 +220,17 @@ fn process(rt: &HostRuntime, task: &Task<'_>, pages: &Pages<'_>) -> Result<u8, F
 
 // Writes what is selected of pages.
 fn select(rt: &HostRuntime, selected: &Selected<'_>, pages: &Pages<'_>) -> Result<u8, Failure> {
-    let key = key_of(rt, selected)?;
-    let job = Job::Select(selected, key.as_str());
+    let lower = made(rt, lower_words(rt.alloc(), &selected.keys))?;
+    let keys = made(rt, keys_of(rt.alloc(), &selected.keys, &lower))?;
+    let job = Job::Select(selected, keys.as_slice());
     process_pages(rt, &job, pages)
+}
+
+// Writes links of pages.
+fn write_links(rt: &HostRuntime, links: &Links<'_>, pages: &Pages<'_>) -> Result<u8, Failure> {
+    let lower = made(rt, lower_words(rt.alloc(), &links.keys))?;
+    let keys = made(rt, texts_of(rt.alloc(), &lower))?;
+    process(rt, &Task::Ask(links.question(keys.as_slice())), pages)
 }
 
 // The lists that texts say.

@@ -10,6 +10,7 @@ use crate::filename::with_prefix;
 use crate::job::Job;
 use crate::reports::{Answer, Report, Tally, status_of};
 use crate::task::Unmade;
+use crate::unread::{report_media, report_unread};
 use std::alloc::{AllocError, Global};
 use std::fs::File;
 use std::io::{ErrorKind, Read, Write};
@@ -17,6 +18,7 @@ use std::{fmt, io};
 use tl_answers::Output;
 use tl_encoding::{
     DecodeError, Encoding, decode, decode_strict, encoding_by_bytes, encoding_marked, encoding_of,
+    media_of,
 };
 use tl_page::{Failure, text};
 
@@ -134,8 +136,8 @@ fn page_output(
     }
 }
 
-// What a page is in: what its byte-order mark says, what was said, or what it says.
-fn encoding_in(pages: &Pages<'_>, page: &[u8]) -> Encoding {
+/// What a page is in: what its byte-order mark says, what was said, or what it says.
+pub fn encoding_in(pages: &Pages<'_>, page: &[u8]) -> Encoding {
     let said = match pages.encoding {
         Telling::Pages => return encoding_of(page),
         Telling::Bytes => return encoding_by_bytes(page),
@@ -182,8 +184,8 @@ impl fmt::Display for UnsaidEncoding<'_> {
     }
 }
 
-// Says on standard error why there is no text of a page.
-fn no_text(rt: &HostRuntime, pages: &Pages<'_>, file: &str, error: &DecodeError) -> Answer
+/// Says on standard error why there is no text of a page.
+pub fn no_text(rt: &HostRuntime, pages: &Pages<'_>, file: &str, error: &DecodeError) -> Answer
     ensures { result ≡ Failed NotUnderstood }
 {
     match pages.encoding {
@@ -208,6 +210,7 @@ enum TooLarge {
     Tree,
     TreeAt(usize),
     TableAt(usize),
+    Url,
 }
 
 impl fmt::Display for TooLarge {
@@ -216,6 +219,7 @@ impl fmt::Display for TooLarge {
             TooLarge::Tree => f.write_str("its tree is too large"),
             TooLarge::TreeAt(place) => write!(f, "its tree is out of proportion at byte {place}"),
             TooLarge::TableAt(place) => write!(f, "byte {place}: the table has too many values"),
+            TooLarge::Url => f.write_str("a URL of it is too long"),
         }
     }
 }
@@ -228,6 +232,7 @@ pub fn unmade(rt: &HostRuntime, file: &str, text: &[u8], why: Unmade) -> Result<
         Unmade::OutOfProportion(place) => Ok(not_understood(rt, file, &TooLarge::TreeAt(place))),
         Unmade::TooLarge => Ok(not_understood(rt, file, &TooLarge::Tree)),
         Unmade::LargeTable(place) => Ok(not_understood(rt, file, &TooLarge::TableAt(place))),
+        Unmade::LongUrl => Ok(not_understood(rt, file, &TooLarge::Url)),
     }
 }
 
@@ -264,6 +269,10 @@ fn process_bytes(
     file: &str,
     page: Vec<u8>,
 ) -> Result<Answer, Failure> {
+    if let Some(media) = media_of(&page) {
+        pages.terminal.clear(rt);
+        return Ok(report_media(rt, file, media));
+    }
     let encoding = encoding_in(pages, &page);
     let text = match text_of(rt, pages, page, encoding) {
         Ok(text) => text,
@@ -290,7 +299,7 @@ fn process_page(
         }
         Err(error) => {
             pages.terminal.clear(rt);
-            Ok(Answer::Failed(report_error(rt, file, &error)))
+            Ok(Answer::Failed(report_unread(rt, file, &error)))
         }
     }
 }

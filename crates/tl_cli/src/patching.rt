@@ -6,19 +6,22 @@ use crate::args::Pages;
 use crate::crossed::Crossed;
 use crate::in_place::replace;
 use crate::misread::Misread;
+use crate::own_bytes::{Editable, Uneditable, failure_of, is_misread, own_bytes, to_be_edited};
 use crate::pages::{
-    STANDARD_INPUT, not_understood, page_of, report, report_error, report_failure, unmade,
+    STANDARD_INPUT, no_text, not_understood, page_of, report, report_error, report_failure, unmade,
     unwritten, write,
 };
 use crate::position::Position;
 use crate::reports::{Answer, Report, status_of};
 use crate::task::Unmade;
+use crate::telling::{Tellings, tell_places};
+use crate::unread::{report_media, report_unread};
 use std::alloc::{AllocError, Global};
-use std::fmt;
 use std::io::ErrorKind;
 use tl_answers::{Edit, Refusal, edited_page};
 use tl_css::Selector;
-use tl_encoding::{Encoding, encoding_by_bytes, encoding_said};
+use tl_diff::unified;
+use tl_encoding::{Encoding, media_of};
 use tl_page::{Failure, text};
 use tl_patch_edit::EditError;
 use tl_patch_select::{Patched, SelectionEditError};
@@ -40,7 +43,10 @@ pub enum Target<'w> {
 pub struct Patching<'w> {
     pub selector: Selector,
     pub edit: Edit<'w>,
+    /// The file that has the text that is put, where one is named.
+    pub text_file: Option<&'w str>,
     pub target: Target<'w>,
+    pub tellings: Tellings,
 }
 
 // The lines that say where tags begin: the file, the line and the column, both from 1, in bytes.
@@ -77,21 +83,22 @@ fn write_answer(rt: &HostRuntime, is_found: bool, bytes: &[u8]) -> Answer {
     }
 }
 
-// Puts a page with changes into its file. Where its bytes stay the file isn't touched.
+// Puts the bytes of a page with changes into its file. Where they stay the file isn't touched.
 fn write_file(
     rt: &HostRuntime,
     file: &str,
     suffix: Option<&str>,
-    page: &str,
+    page: &Editable,
     patched: &Patched,
+    bytes: &[u8],
 ) -> Answer {
     if patched.places.is_empty() {
         return Answer::Nothing;
     }
-    if patched.bytes.as_slice() == page.as_bytes() {
+    if patched.bytes.as_slice() == page.text.as_bytes() {
         return Answer::Found;
     }
-    match replace(rt, file, suffix, patched.bytes.as_slice()) {
+    match replace(rt, file, suffix, bytes) {
         Ok(()) => Answer::Found,
         Err(error) if error.kind() == ErrorKind::InvalidInput => {
             let _ = eprintln!(rt; "tl: {file}: no regular file");
@@ -101,98 +108,161 @@ fn write_file(
     }
 }
 
-// Does with a page that has changes what is asked.
-fn put(
+// Writes what changes in the text of a page, and puts it into its file where that is asked.
+fn put_diff(
     rt: &HostRuntime,
     target: &Target<'_>,
     file: &str,
-    page: &str,
+    page: &Editable,
     patched: &Patched,
+    bytes: &[u8],
+) -> Result<Answer, AllocError> {
+    let own = page.text.as_bytes();
+    let diff = unified(rt.alloc(), file, own, patched.bytes.as_slice())?;
+    let answer = match target {
+        Target::Files(suffix) => write_file(rt, file, *suffix, page, patched, bytes),
+        Target::Output | Target::Nowhere if patched.places.is_empty() => Answer::Nothing,
+        Target::Output | Target::Nowhere => Answer::Found,
+    };
+    match answer {
+        Answer::Found => Ok(write_answer(rt, true, diff.as_slice())),
+        _ => Ok(answer),
+    }
+}
+
+// Puts the bytes of a page with changes where they go.
+fn put_page(
+    rt: &HostRuntime,
+    target: &Target<'_>,
+    file: &str,
+    page: &Editable,
+    patched: &Patched,
+    bytes: &[u8],
 ) -> Result<Answer, AllocError> {
     let is_found = !patched.places.is_empty();
     match target {
-        Target::Output => Ok(write_answer(rt, is_found, patched.bytes.as_slice())),
-        Target::Files(suffix) => Ok(write_file(rt, file, *suffix, page, patched)),
+        Target::Output => Ok(write_answer(rt, is_found, bytes)),
+        Target::Files(suffix) => Ok(write_file(rt, file, *suffix, page, patched, bytes)),
         Target::Nowhere => {
-            let lines = place_lines(rt.alloc(), file, page, patched.places.as_slice())?;
+            let places = patched.places.as_slice();
+            let lines = place_lines(rt.alloc(), file, page.text.as_str(), places)?;
             Ok(write_answer(rt, is_found, lines.as_bytes()))
         }
     }
 }
 
-// Whether browsers would read other characters than those that were put: a page of ASCII says
-// another encoding than UTF-8, and is no more ASCII.
-fn is_misread(page: &[u8], patched: &Patched) -> bool {
-    page.is_ascii() && !patched.bytes.as_slice().is_ascii() && encoding_said(page) != Encoding::Utf8
+// Does with the bytes of a page that has changes what is asked.
+fn put(
+    rt: &HostRuntime,
+    patching: &Patching<'_>,
+    file: &str,
+    page: &Editable,
+    patched: &Patched,
+    bytes: &[u8],
+) -> Result<Answer, AllocError> {
+    let answer = if patching.tellings.has_diff {
+        put_diff(rt, &patching.target, file, page, patched, bytes)?
+    } else {
+        put_page(rt, &patching.target, file, page, patched, bytes)?
+    };
+    if patching.tellings.is_verbose && answer.is_made() {
+        tell_places(rt, file, patched.places.len());
+    }
+    Ok(answer)
 }
 
-// Why a page is not changed that is UTF-8 only as far as its bytes go.
-#[derive(Clone, Copy)]
-struct NotChanged {
-    encoding: Encoding,
-}
-
-impl fmt::Display for NotChanged {
-    fn fmt<W: fmt::Write>(&self, f: &mut fmt::Formatter<W>) -> fmt::Result {
-        match self.encoding {
-            Encoding::Iso2022Jp => {
-                f.write_str("ISO-2022-JP is not changed; iconv -f ISO-2022-JP makes UTF-8 of it")
-            }
-            _ => f.write_str("UTF-16 is not changed"),
-        }
+// Says on standard error why a page isn't edited.
+fn unedited(rt: &HostRuntime, file: &str, error: Uneditable) -> Result<Answer, Failure> {
+    match failure_of(error) {
+        Some(failure) => Err(failure),
+        None => Ok(not_understood(rt, file, &error)),
     }
 }
 
-// Why a page is not changed by what is no ASCII.
-#[derive(Clone, Copy)]
-struct OtherEncoding;
+// What comes of a page with changes.
+fn put_patched(
+    rt: &HostRuntime,
+    patching: &Patching<'_>,
+    file: &str,
+    page: &Editable,
+    patched: &Patched,
+) -> Result<Answer, Failure> {
+    let edited = match text(patched.bytes.as_slice()) {
+        Ok(edited) => edited,
+        Err(error) => return Ok(not_understood(rt, file, &error)),
+    };
+    if is_misread(page, edited) {
+        return unedited(rt, file, Uneditable::Misread);
+    }
+    if page.encoding == Encoding::Utf8 {
+        return Ok(put(rt, patching, file, page, patched, edited.as_bytes())?);
+    }
+    match own_bytes(rt.alloc(), page.encoding, edited) {
+        Ok(bytes) => Ok(put(rt, patching, file, page, patched, bytes.as_slice())?),
+        Err(error) => unedited(rt, file, error),
+    }
+}
 
-impl fmt::Display for OtherEncoding {
-    fn fmt<W: fmt::Write>(&self, f: &mut fmt::Formatter<W>) -> fmt::Result {
-        f.write_str("what is put is no ASCII, and the page says another encoding than UTF-8")
+// Changes the text of a page.
+fn patch_text(
+    rt: &HostRuntime,
+    patching: &Patching<'_>,
+    file: &str,
+    page: &Editable,
+) -> Result<Answer, Failure> {
+    let own = match text(page.text.as_bytes()) {
+        Ok(own) => own.as_bytes(),
+        Err(error) => return Ok(not_understood(rt, file, &error)),
+    };
+    match edited_page(rt.alloc(), &patching.edit, &patching.selector, own) {
+        Ok(patched) => put_patched(rt, patching, file, page, &patched),
+        Err(Refusal::OutOfMemory) => Err(Failure::OutOfMemory),
+        Err(Refusal::Tag(error)) => Ok(not_understood(rt, file, &error)),
+        Err(Refusal::Element(SelectionEditError::Refused(EditError::Misread(place, cause)))) => {
+            let misread = Misread {
+                page: own,
+                place,
+                cause,
+            };
+            Ok(not_understood(rt, file, &misread))
+        }
+        Err(Refusal::Element(SelectionEditError::NotWhole(place, at))) => {
+            let crossed = Crossed {
+                page: own,
+                place,
+                at,
+            };
+            Ok(not_understood(rt, file, &crossed))
+        }
+        Err(Refusal::Element(error)) => Ok(not_understood(rt, file, &error)),
+        Err(Refusal::Unread(error)) => unmade(rt, file, own, Unmade::from(error)),
     }
 }
 
 // Changes the page in a file.
-fn patch_page(rt: &HostRuntime, patching: &Patching<'_>, file: &str) -> Result<Answer, Failure> {
+fn patch_page(
+    rt: &HostRuntime,
+    patching: &Patching<'_>,
+    pages: &Pages<'_>,
+    file: &str,
+) -> Result<Answer, Failure> {
     let bytes = match page_of(rt, file) {
         Ok(bytes) => bytes,
-        Err(error) => return Ok(Answer::Failed(report_error(rt, file, &error))),
+        Err(error) => return Ok(Answer::Failed(report_unread(rt, file, &error))),
     };
-    let page = match text(bytes.as_slice()) {
-        Ok(page) => page,
-        Err(error) => return Ok(not_understood(rt, file, &error)),
-    };
-    let encoding = encoding_by_bytes(page.as_bytes());
-    if encoding != Encoding::Utf8 {
-        return Ok(not_understood(rt, file, &NotChanged { encoding }));
+    if let Some(media) = media_of(&bytes) {
+        return Ok(report_media(rt, file, media));
     }
-    let edit = &patching.edit;
-    match edited_page(rt.alloc(), edit, &patching.selector, page.as_bytes()) {
-        Ok(patched) if is_misread(page.as_bytes(), &patched) => {
-            Ok(not_understood(rt, file, &OtherEncoding))
-        }
-        Ok(patched) => Ok(put(rt, &patching.target, file, page, &patched)?),
-        Err(Refusal::OutOfMemory) => Err(Failure::OutOfMemory),
-        Err(Refusal::Tag(error)) => Ok(not_understood(rt, file, &error)),
-        Err(Refusal::Element(SelectionEditError::Refused(EditError::Misread(place, cause)))) => {
-            let page = page.as_bytes();
-            let misread = Misread { page, place, cause };
-            Ok(not_understood(rt, file, &misread))
-        }
-        Err(Refusal::Element(SelectionEditError::NotWhole(place, at))) => {
-            let page = page.as_bytes();
-            let crossed = Crossed { page, place, at };
-            Ok(not_understood(rt, file, &crossed))
-        }
-        Err(Refusal::Element(error)) => Ok(not_understood(rt, file, &error)),
-        Err(Refusal::Unread(error)) => unmade(rt, file, page.as_bytes(), Unmade::from(error)),
+    match to_be_edited(rt.alloc(), pages, bytes) {
+        Ok(page) => patch_text(rt, patching, file, &page),
+        Err(Uneditable::Undecoded(error)) => Ok(no_text(rt, pages, file, &error)),
+        Err(error) => unedited(rt, file, error),
     }
 }
 
 // What comes of the page in a file; a failure is said on standard error.
-fn answer(rt: &HostRuntime, patching: &Patching<'_>, file: &str) -> Answer {
-    match patch_page(rt, patching, file) {
+fn answer(rt: &HostRuntime, patching: &Patching<'_>, pages: &Pages<'_>, file: &str) -> Answer {
+    match patch_page(rt, patching, pages, file) {
         Ok(answer) => answer,
         Err(failure) => {
             report(rt, file, failure);
@@ -205,11 +275,12 @@ fn answer(rt: &HostRuntime, patching: &Patching<'_>, file: &str) -> Answer {
 fn patch_files<'f>(
     rt: &HostRuntime,
     patching: &Patching<'_>,
+    pages: &Pages<'_>,
     files: &[&'f str],
 ) -> Result<Vec<Report<'f>>, AllocError> {
     let mut reports = Vec::with_capacity(rt.alloc(), files.len())?;
     for file in files {
-        let answer = answer(rt, patching, file);
+        let answer = answer(rt, patching, pages, file);
         reports.push(Report { file, answer })?;
         if answer.is_last(false) {
             return Ok(reports);
@@ -232,9 +303,9 @@ pub fn patch_pages(
     } else {
         pages.files.as_slice()
     };
-    let reports = match patch_files(rt, patching, files) {
+    let reports = match patch_files(rt, patching, pages, files) {
         Ok(reports) => reports,
         Err(AllocError) => return Err(report_failure(rt, "files", Failure::OutOfMemory)),
     };
-    Ok(status_of(false, &reports))
+    Ok(patching.tellings.status(status_of(false, &reports)))
 }

@@ -37,6 +37,14 @@ pub enum Answer {
 }
 
 impl Answer {
+    /// Whether what is asked is done with the page.
+    pub fn is_made(&self) -> bool {
+        match self {
+            Answer::Found | Answer::Nothing => true,
+            Answer::Failed(_) | Answer::Unwritten(_) | Answer::Unread => false,
+        }
+    }
+
     /// Whether no page after it is looked at: nothing more can be written, or it is only asked
     /// whether something is found, and it is.
     pub fn is_last(&self, is_quiet: bool) -> bool

@@ -1,8 +1,8 @@
 //! What the words of `select` say.
 use std::alloc::{AllocError, Global};
-use tl_answers::{Field, Key, Listing, Query, Question};
+use tl_answers::{Field, Key, Listing, Query, Question, Records};
 use tl_css::Selector;
-use tl_tree_extract::JsonForm;
+use tl_tree_extract::{Columns, JsonForm};
 
 /// What is written of nodes.
 #[derive(Clone, Copy, PartialEq, Eq)]
@@ -23,6 +23,8 @@ pub enum Wanted {
     Text,
     /// The value of each at a key.
     Value,
+    /// The values of each at several, with its text or without.
+    Records(Columns, bool),
 }
 
 impl Wanted {
@@ -45,50 +47,85 @@ impl Wanted {
 #[derive(Drop)]
 pub struct Selected<'w> {
     pub selector: Selector,
-    /// The key of the values that are wanted, as it was typed; empty where none are.
-    pub key: &'w str,
+    /// The keys of the values that are wanted, as they were typed.
+    pub keys: Vec<&'w str>,
     pub wanted: Wanted,
+    /// Whether what is written of a node says where it begins.
+    pub is_placed: bool,
     /// How many nodes at most are meant, the first of each page; all where it isn't said.
     pub most: Option<u32>,
 }
 
-impl Selected<'_> {
-    /// The key in lower case.
-    pub fn lower_key(&self, alloc: Global) -> Result<String, AllocError> {
-        self.key.to_ascii_lowercase(alloc)
+/// Words in lower case.
+pub fn lower_words(alloc: Global, words: &[&str]) -> Result<Vec<String>, AllocError> {
+    let mut lower = Vec::with_capacity(alloc, words.len())?;
+    for word in words {
+        lower.push(word.to_ascii_lowercase(alloc)?)?;
     }
+    Ok(lower)
+}
 
-    // What is asked of each node, where this is the key in lower case.
-    fn field<'k>(&'k self, lower: &'k str) -> Field<'k> {
-        match self.wanted {
-            Wanted::Number => Field::Number,
-            Wanted::InnerHtml => Field::InnerHtml,
-            Wanted::Text => Field::Text,
-            Wanted::Value => Field::Value(Key {
-                written: self.key,
-                lower,
-            }),
+/// Texts that are lent.
+pub fn texts_of(alloc: Global, texts: &[String]) -> Result<Vec<&str>, AllocError> {
+    let mut lent = Vec::with_capacity(alloc, texts.len())?;
+    for text in texts {
+        lent.push(text.as_str())?;
+    }
+    Ok(lent)
+}
+
+/// Keys as they were typed, with the same in lower case.
+pub fn keys_of<'k>(
+    alloc: Global,
+    typed: &'k [&'k str],
+    lower: &'k [String],
+) -> Result<Vec<Key<'k>>, AllocError> {
+    let mut keys = Vec::with_capacity(alloc, typed.len())?;
+    for (written, lower) in typed.iter().zip(lower) {
+        let lower = lower.as_str();
+        keys.push(Key { written, lower })?;
+    }
+    Ok(keys)
+}
+
+impl Selected<'_> {
+    // What is asked of each node.
+    fn field<'k>(&self, keys: &[Key<'k>]) -> Field<'k> {
+        match (self.wanted, keys) {
+            (Wanted::Number, _) => Field::Number,
+            (Wanted::InnerHtml, _) => Field::InnerHtml,
+            (Wanted::Text, _) => Field::Text,
+            (Wanted::Value, [key, ..]) => Field::Value(*key),
             _ => Field::OuterHtml,
         }
     }
 
-    // What is written of the nodes of a file, where this is the key in lower case.
-    fn listing<'k>(&'k self, lower: &'k str, file: Option<&'k str>) -> Listing<'k> {
-        match (self.wanted.json_form(), file) {
-            (Some(form), None) => Listing::Objects(form),
-            (Some(form), Some(file)) => Listing::Lines(form, file),
-            (None, _) if self.wanted == Wanted::Count => Listing::Count,
-            (None, _) => Listing::Fields(self.field(lower)),
+    // What is written of the nodes of a file.
+    fn listing<'k>(&self, keys: &'k [Key<'k>], file: Option<&'k str>) -> Listing<'k> {
+        if let Some(form) = self.wanted.json_form() {
+            return match file {
+                Some(file) => Listing::Lines(form, file),
+                None => Listing::Objects(form),
+            };
+        }
+        match self.wanted {
+            Wanted::Count => Listing::Count,
+            Wanted::Records(columns, has_text) => Listing::Records(Records {
+                keys,
+                has_text,
+                columns,
+            }),
+            _ if self.is_placed => Listing::Placed(self.field(keys)),
+            _ => Listing::Fields(self.field(keys)),
         }
     }
 
-    /// What is asked, where this is the key in lower case. An object of a file that is named says
-    /// its name.
-    pub fn question<'k>(&'k self, lower: &'k str, file: Option<&'k str>) -> Question<'k> {
+    /// What is asked, where these are its keys. An object of a file that is named says its name.
+    pub fn question<'k>(&'k self, keys: &'k [Key<'k>], file: Option<&'k str>) -> Question<'k> {
         Question::Select(Query {
             selector: &self.selector,
             most: self.most,
-            listing: self.listing(lower, file),
+            listing: self.listing(keys, file),
         })
     }
 }

@@ -34,6 +34,8 @@ pub enum Unmade {
     TooLarge,
     /// The table that is asked for has too many values. Its start tag begins at this byte.
     LargeTable(usize),
+    /// A link leads to a URL of more than 4 GB.
+    LongUrl,
 }
 
 impl From<Failure> for Unmade {
@@ -71,6 +73,7 @@ impl From<AnswerError> for Unmade {
         match error {
             AnswerError::Unread(error) => Unmade::from(error),
             AnswerError::LargeTable { at } => Unmade::LargeTable(at),
+            AnswerError::LongUrl => Unmade::LongUrl,
             AnswerError::OutOfMemory => Unmade::Failed(Failure::OutOfMemory),
         }
     }

@@ -20,7 +20,8 @@ pub const NO_NAME: Flag = Flag {
     excludes: &[],
 };
 
-const ENCODING: Flag = Flag {
+/// What pages are in.
+pub const ENCODING: Flag = Flag {
     name: "encoding",
     short: None,
     value: Some("LABEL"),
@@ -116,6 +117,85 @@ pub static TABLE_NUMBER: Flag = Flag {
     excludes: &[],
 };
 
+const TSV: Flag = Flag {
+    name: "tsv",
+    short: None,
+    value: None,
+    help: "Values with tabs between them",
+    excludes: &["inside", "number", "count", "json"],
+};
+
+const CSV: Flag = Flag {
+    name: "csv",
+    short: None,
+    value: None,
+    help: "Values with commas between them, as RFC 4180 has it",
+    excludes: &["tsv", "inside", "number", "count", "json"],
+};
+
+pub static WHERE: Flag = Flag {
+    name: "where",
+    short: None,
+    value: None,
+    help: "FILE:LINE:COLUMN: before each, where it begins",
+    excludes: &["count", "json", "tsv", "csv"],
+};
+
+// How values of nodes are told apart.
+pub static COLUMNS: [Flag; 2] = [TSV, CSV];
+
+// How a table is written.
+pub static TABLE_FLAGS: [Flag; 2] = [
+    Flag {
+        name: "tsv",
+        short: None,
+        value: None,
+        help: "Values with tabs between them, not commas",
+        excludes: &[],
+    },
+    Flag {
+        name: "as-written",
+        short: None,
+        value: None,
+        help: "The words of a cell that spans once, where it begins",
+        excludes: &[],
+    },
+];
+
+pub static BASE: Flag = Flag {
+    name: "base",
+    short: None,
+    value: Some("URL"),
+    help: "URL of the page: write where each link leads",
+    excludes: &[],
+};
+
+// The hosts to which links lead.
+pub static HOSTS: [Flag; 2] = [
+    Flag {
+        name: "internal",
+        short: None,
+        value: None,
+        help: "With --base: links to the host of URL alone",
+        excludes: &["external"],
+    },
+    Flag {
+        name: "external",
+        short: None,
+        value: None,
+        help: "With --base: links to other hosts alone",
+        excludes: &[],
+    },
+];
+
+pub static LINK_KEY: Flag = Flag {
+    name: "attribute",
+    short: Some('a'),
+    value: Some("KEY"),
+    help: "Of attributes with this key alone; may be repeated",
+    excludes: &[],
+};
+
 pub static NODE_NUMBERS: Flag = Flag {
     name: "number",
     short: Some('n'),
@@ -124,22 +204,24 @@ pub static NODE_NUMBERS: Flag = Flag {
     excludes: &[],
 };
 
-// What may be written of a node; without one of these its print.
-pub static NODE_FLAGS: [Flag; 6] = [
-    Flag {
-        name: "attribute",
-        short: Some('a'),
-        value: Some("KEY"),
-        help: "The value at KEY, of nodes that have one",
-        excludes: &[],
-    },
-    Flag {
-        name: "text",
-        short: Some('t'),
-        value: None,
-        help: "The characters of the texts below the node",
-        excludes: &[],
-    },
+pub static ATTRIBUTE: Flag = Flag {
+    name: "attribute",
+    short: Some('a'),
+    value: Some("KEY"),
+    help: "The value at KEY, of nodes that have one",
+    excludes: &["inside", "number", "count", "json"],
+};
+
+pub static TEXT: Flag = Flag {
+    name: "text",
+    short: Some('t'),
+    value: None,
+    help: "The characters of the texts below the node",
+    excludes: &["inside", "number", "count", "json"],
+};
+
+// What else may be written of a node; without one of these its print.
+pub static NODE_FLAGS: [Flag; 4] = [
     Flag {
         name: "inside",
         short: Some('H'),
@@ -201,20 +283,45 @@ pub static TARGETS: [Flag; 3] = [
         short: Some('i'),
         value: None,
         help: "Into their files, each of which is replaced at once",
-        excludes: &[],
+        excludes: &["dry-run"],
     },
     Flag {
         name: "backup",
         short: None,
         value: Some("SUFFIX"),
         help: "So too, and the old page stays in FILESUFFIX",
-        excludes: &[],
+        excludes: &["dry-run"],
     },
     Flag {
         name: "dry-run",
         short: None,
         value: None,
         help: "Nowhere: write FILE:LINE:COLUMN of what would change",
+        excludes: &["diff"],
+    },
+];
+
+// What is told of changes, and which status they give.
+pub static TELLINGS: [Flag; 3] = [
+    Flag {
+        name: "diff",
+        short: None,
+        value: None,
+        help: "Write what changes as a diff, and no page",
+        excludes: &[],
+    },
+    Flag {
+        name: "verbose",
+        short: Some('v'),
+        value: None,
+        help: "Say on standard error how many places each page has",
+        excludes: &[],
+    },
+    Flag {
+        name: "ok",
+        short: None,
+        value: None,
+        help: "Status 0 also where nothing is found",
         excludes: &[],
     },
 ];
@@ -308,7 +415,7 @@ pub static LISTS: [Flag; 6] = [
 ];
 
 // How a value is made of the one that stands there.
-pub static REWRITES: [Flag; 5] = [
+pub static REWRITES: [Flag; 8] = [
     Flag {
         name: "prefix",
         short: None,
@@ -344,6 +451,27 @@ pub static REWRITES: [Flag; 5] = [
         help: "The value of another key",
         excludes: &[],
     },
+    Flag {
+        name: "from-text",
+        short: None,
+        value: None,
+        help: "Where none is: its words, as an id for a heading",
+        excludes: &[],
+    },
+    Flag {
+        name: "base",
+        short: None,
+        value: Some("URL"),
+        help: "Its old value, absolute, where the page has URL",
+        excludes: &[],
+    },
+    Flag {
+        name: "drop-query",
+        short: None,
+        value: Some("GLOB"),
+        help: "Its old value without such parameters, as utm_*",
+        excludes: &[],
+    },
 ];
 
 pub static REPLACE: Flag = Flag {
@@ -351,7 +479,16 @@ pub static REPLACE: Flag = Flag {
     short: None,
     value: Some("TO"),
     help: "Its old value with TO for each match of a regex",
-    excludes: &["prefix", "suffix", "add-word", "remove-word", "from"],
+    excludes: &[
+        "prefix",
+        "suffix",
+        "add-word",
+        "remove-word",
+        "from",
+        "from-text",
+        "base",
+        "drop-query",
+    ],
 };
 
 pub static LITERAL: Flag = Flag {

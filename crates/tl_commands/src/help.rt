@@ -13,7 +13,8 @@ and tbody put in, end tags that may be left out, character references, and what
 stands wrongly moved; set and its like read the tags that the page itself has.
 A page is in what its byte-order mark says, else in what --encoding says, else
 what its <meta charset> says, else UTF-8. Bytes that stand for no character are
-read as U+FFFD, but with --strict. What is written is UTF-8.
+read as U+FFFD, but with --strict. What is written is UTF-8, but for pages that
+are changed: these stay in their encoding.
 
 It ends with 0: all is done; 1: nothing is found, of select, links, table, text
 --in and the commands that change where a selector holds; 2: words, a selector
@@ -38,6 +39,10 @@ A value that is no name stands in quotes: 'img[src$=\".png\"]'. Behind a \\ any
 character is one of a name: '[\\@click]'. docs/COMMANDS.md says what differs
 from browsers.
 
+Several -a, or -a and -t, give a line of values for each node, with tabs between
+them or as --csv has it: -a href -a class -t. There -t is the text as it is
+read, on one line, and a node without the key has an empty value.
+
 Of several files each line has the name of its file and a colon before it; with
 --json each node is an object on a line that has its file, where one file alone
 gives an array. With --tree each object has the nodes below it as children in
@@ -45,7 +50,12 @@ the place of its text.";
 
 pub const LINKS: &str = "\
 Example:
-  tl links index.html | grep '^http:'     links that are not encrypted";
+  tl links index.html | grep '^http:'     links that are not encrypted
+  tl links --base https://a.org/ --external -a href index.html
+
+With --base a link is written as the URL where it leads, which the page's first
+<base href> has its say in; what is no URL is written as it stands, and left out
+where a host is asked for.";
 
 pub const TEXTS: &str = "\
 Example:
@@ -55,9 +65,10 @@ pub const TABLES: &str = "\
 Example:
   tl table --number 2 index.html          the second table of a page
 
-A line for each row, as it stands in the page: its cells in order, each once,
-however many places it spans. Rows of a table in a cell are no rows of it; their
-words are words of the cell.";
+A line for each row, with a value for each column: the words of the cell that
+covers the place. One that spans several says its words in each, but with
+--as-written. Rows of a table in a cell are no rows of it; their words are words
+of the cell.";
 
 pub const PRINTS: &str = "\
 Example:
@@ -79,6 +90,9 @@ Example:
   tl set -i a href --replace ^http: https: *.html
   tl set -i 'a[href^=\"/\"]' href --prefix https://a.org *.html
   tl set -i table class --add-word wide *.html
+  tl set -i h2,h3 id --from-text *.html
+  tl set -i a href --drop-query 'utm_*' *.html
+  tl set img src --base https://a.org/b/ index.html
 
 Pages are UTF-8, and are read as browsers read them. No byte changes but in
 these tags: the value of the key, or the key. A page that can't be changed so

@@ -1,14 +1,15 @@
 //! The commands.
 use crate::element::ElementVerb;
 use crate::flag::{
-    BASES, DECODING, Flag, LEFT_OUT, LISTS, LITERAL, NO_NAME, NODE_FLAGS, NODE_NUMBERS, POLICIES,
-    PRETTY, REPLACE, REWRITES, SEARCH, SELECTION, TABLE_NUMBER, TARGETS, TEXT_FLAGS, TREE,
+    ATTRIBUTE, BASE, BASES, COLUMNS, DECODING, ENCODING, Flag, HOSTS, LEFT_OUT, LINK_KEY, LISTS,
+    LITERAL, NO_NAME, NODE_FLAGS, NODE_NUMBERS, POLICIES, PRETTY, REPLACE, REWRITES, SEARCH,
+    SELECTION, TABLE_FLAGS, TABLE_NUMBER, TARGETS, TELLINGS, TEXT, TEXT_FLAGS, TREE, WHERE,
 };
 use crate::help::{
     ABOUT, LINKS, OUTLINES, PRINTS, PROGRAM, SAFE, SELECTORS, SETTINGS, TABLES, TEXTS, UNSETTINGS,
 };
 use crate::word::{NODES, TAGS_AND_KEY, VALUE, with_words};
-use clap::{Arg, ArgGroup, Command};
+use clap::{Arg, ArgAction, ArgGroup, Command};
 use std::alloc::{AllocError, Global};
 
 // The files at the end of the words.
@@ -153,11 +154,9 @@ impl Verb {
     fn command<'w>(self, alloc: Global) -> Result<Command<'w>, AllocError> {
         match self {
             Verb::Select => select(alloc, self.bare_command(alloc)),
-            Verb::Links => with_flags(alloc, self.reading_command(alloc)?, &SEARCH),
+            Verb::Links => links(alloc, self.reading_command(alloc)?),
             Verb::Text => text(alloc, self.reading_command(alloc)?),
-            Verb::Table => self
-                .reading_command(alloc)?
-                .arg(TABLE_NUMBER.argument(alloc)?),
+            Verb::Table => table(alloc, self.reading_command(alloc)?),
             Verb::Print => self.reading_command(alloc)?.arg(PRETTY.argument(alloc)?),
             Verb::Outline => outline(alloc, self.reading_command(alloc)?),
             Verb::Set => set(alloc, self.bare_command(alloc)),
@@ -185,7 +184,10 @@ fn select<'w>(alloc: Global, command: Command<'w>) -> Result<Command<'w>, AllocE
     let command = with_flags(alloc, command, &SELECTION)?;
     let command = with_flags(alloc, command, &DECODING)?;
     let command = with_flags(alloc, command, &SEARCH)?;
+    let command = command.arg(ATTRIBUTE.argument(alloc)?.action(ArgAction::Append))?;
+    let command = command.arg(TEXT.argument(alloc)?)?;
     let command = with_flags(alloc, command, &NODE_FLAGS)?;
+    let command = with_flags(alloc, command, &COLUMNS)?.arg(WHERE.argument(alloc)?)?;
 
     // (what can't stand beside `json` would lift what is required)
     let tree = TREE.argument(alloc)?.requires_arg("json")?;
@@ -194,6 +196,21 @@ fn select<'w>(alloc: Global, command: Command<'w>) -> Result<Command<'w>, AllocE
         .group(one_of(alloc, "wanted", &NODE_FLAGS)?)?
         .arg(NO_NAME.argument(alloc)?)?
         .arg(files(alloc))
+}
+
+fn links<'w>(alloc: Global, command: Command<'w>) -> Result<Command<'w>, AllocError> {
+    let command = with_flags(alloc, command, &SEARCH)?;
+    let command = command.arg(LINK_KEY.argument(alloc)?.action(ArgAction::Append))?;
+    let mut command = command.arg(BASE.argument(alloc)?)?;
+    for flag in &HOSTS {
+        command = command.arg(flag.argument(alloc)?.requires_arg("base")?)?;
+    }
+    Ok(command)
+}
+
+fn table<'w>(alloc: Global, command: Command<'w>) -> Result<Command<'w>, AllocError> {
+    let command = command.arg(TABLE_NUMBER.argument(alloc)?)?;
+    with_flags(alloc, command, &TABLE_FLAGS)
 }
 
 fn text<'w>(alloc: Global, command: Command<'w>) -> Result<Command<'w>, AllocError> {
@@ -207,8 +224,9 @@ fn outline<'w>(alloc: Global, command: Command<'w>) -> Result<Command<'w>, Alloc
 
 // A command that changes tags or elements where a selector holds.
 fn with_targets<'w>(alloc: Global, command: Command<'w>) -> Result<Command<'w>, AllocError> {
-    with_flags(alloc, command, &TARGETS)?
-        .group(one_of(alloc, "target", &TARGETS)?)?
+    let command = with_flags(alloc, command, &TARGETS)?;
+    with_flags(alloc, command, &TELLINGS)?
+        .arg(ENCODING.argument(alloc)?)?
         .arg(files(alloc))
 }
 

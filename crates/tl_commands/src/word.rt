@@ -53,7 +53,7 @@ pub static ELEMENTS_AND_TEXT: [Word; 2] = [
     ELEMENT_SELECTOR,
     Word {
         name: "TEXT",
-        help: "What is put, as characters; with --html as markup",
+        help: "What is put, as characters; of @FILE what FILE has",
     },
 ];
 

@@ -1,0 +1,159 @@
+//! The text of a page that is edited, and an edited text in the bytes of its encoding.
+ghost use Rattle.std.specs.Prelude.{◌≡◌};
+ghost use Rattle.tl_cli.specs.declared.own_bytes.Uneditable.TheVariants.{OutOfMemory};
+
+use crate::args::Pages;
+use crate::pages::encoding_in;
+use crate::task::{Task, Unmade, execute};
+use std::alloc::{AllocError, Global};
+use std::fmt;
+use tl_answers::Question;
+use tl_encoding::{
+    DecodeError, EncodeError, Encoding, decode_strict, encode, encoding_said, with_references,
+};
+use tl_page::Failure;
+
+/// Why a page isn't edited.
+#[derive(Clone, Copy)]
+pub enum Uneditable {
+    OutOfMemory,
+    /// Some of its bytes stand for nothing.
+    Undecoded(DecodeError),
+    /// More than one row of bytes stands for a text in its encoding.
+    NotChanged(Encoding),
+    /// What is put has a character that the encoding lacks, and no reference stands for one there.
+    Unencoded(Encoding, char),
+    /// What is put is no ASCII, and browsers would read it by another encoding.
+    Misread,
+    /// What is put has a character that the encoding lacks, and it can't be told what is read of
+    /// a reference.
+    Unread(Unmade),
+}
+
+impl fmt::Display for Uneditable {
+    fn fmt<W: fmt::Write>(&self, f: &mut fmt::Formatter<W>) -> fmt::Result {
+        match self {
+            Uneditable::OutOfMemory => f.write_str("out of memory"),
+            Uneditable::Undecoded(error) => write!(f, "{error}"),
+            Uneditable::NotChanged(Encoding::Replacement) => {
+                f.write_str("pages in this encoding are read by nothing, and not changed")
+            }
+            Uneditable::NotChanged(encoding) => {
+                let name = encoding.name();
+                write!(
+                    f,
+                    "{name} is not changed; iconv -f {name} -t UTF-8 makes UTF-8 of it"
+                )
+            }
+            Uneditable::Unencoded(encoding, character) => {
+                let name = encoding.name();
+                write!(
+                    f,
+                    "{character:?} is not in {name}, and no reference can stand there"
+                )
+            }
+            Uneditable::Misread => f.write_str(
+                "what is put is no ASCII, and the page says another encoding than UTF-8",
+            ),
+            Uneditable::Unread(_) => f.write_str("what is put can't be read in the page"),
+        }
+    }
+}
+
+impl From<AllocError> for Uneditable {
+    ghost from_gives = { λ _ error. error ≡ OutOfMemory };
+
+    fn from(_: AllocError) -> Self {
+        Uneditable::OutOfMemory
+    }
+}
+
+/// A page that is edited: its encoding, and its text.
+#[derive(Drop)]
+pub struct Editable {
+    pub encoding: Encoding,
+    pub text: String,
+}
+
+// Whether a page's bytes can be changed where its text is. Of encodings of several bytes only those
+// of ASCII can.
+fn can_change(encoding: Encoding, page: &[u8]) -> bool {
+    match encoding {
+        Encoding::MultiByte(_) => page.is_ascii(),
+        other => other.has_encoder(),
+    }
+}
+
+/// The text of a page that is edited, of which no byte is wrong.
+pub fn to_be_edited(
+    alloc: Global,
+    pages: &Pages<'_>,
+    page: Vec<u8>,
+) -> Result<Editable, Uneditable> {
+    let encoding = encoding_in(pages, &page);
+    if !can_change(encoding, &page) {
+        return Err(Uneditable::NotChanged(encoding));
+    }
+    match decode_strict(alloc, page, encoding) {
+        Ok(text) => Ok(Editable { encoding, text }),
+        Err(DecodeError::OutOfMemory) => Err(Uneditable::OutOfMemory),
+        Err(error) => Err(Uneditable::Undecoded(error)),
+    }
+}
+
+// Whether two pages are read as trees that print the same.
+fn print_alike(alloc: Global, page: &[u8], other: &[u8]) -> Result<bool, Unmade> {
+    let task = Task::Ask(Question::Print);
+    let own = execute(alloc, &task, "\n", page)?;
+    let others = execute(alloc, &task, "\n", other)?;
+    Ok(own.bytes.as_slice() == others.bytes.as_slice())
+}
+
+// The bytes of a page with references in the place of characters that its encoding lacks, if it is
+// read as the same tree.
+fn referenced(
+    alloc: Global,
+    encoding: Encoding,
+    page: &str,
+    lacking: char,
+) -> Result<Vec<u8>, Uneditable> {
+    let own = with_references(alloc, encoding, page)?;
+    match print_alike(alloc, page.as_bytes(), own.as_bytes()) {
+        Ok(true) => {}
+        Ok(false) => return Err(Uneditable::Unencoded(encoding, lacking)),
+        Err(error) => return Err(Uneditable::Unread(error)),
+    }
+    match encode(alloc, encoding, own.as_str()) {
+        Ok(bytes) => Ok(bytes),
+        Err(EncodeError::OutOfMemory) => Err(Uneditable::OutOfMemory),
+        Err(EncodeError::NoCharacter(other)) => Err(Uneditable::Unencoded(encoding, other)),
+    }
+}
+
+/// An edited text in the bytes of its page's encoding. References stand for what that lacks, where
+/// the tree of the page is the same by them.
+pub fn own_bytes(alloc: Global, encoding: Encoding, page: &str) -> Result<Vec<u8>, Uneditable> {
+    match encode(alloc, encoding, page) {
+        Ok(bytes) => Ok(bytes),
+        Err(EncodeError::OutOfMemory) => Err(Uneditable::OutOfMemory),
+        Err(EncodeError::NoCharacter(lacking)) => referenced(alloc, encoding, page, lacking),
+    }
+}
+
+/// Whether browsers would read other characters than those that were put: a page of ASCII says
+/// another encoding than UTF-8, in which it is written, and is no more ASCII.
+pub fn is_misread(editable: &Editable, edited: &str) -> bool {
+    editable.encoding == Encoding::Utf8
+        && editable.text.as_str().is_ascii()
+        && !edited.is_ascii()
+        && encoding_said(editable.text.as_bytes()) != Encoding::Utf8
+}
+
+/// What fails where nothing is wrong with the page.
+pub fn failure_of(error: Uneditable) -> Option<Failure> {
+    match error {
+        Uneditable::OutOfMemory => Some(Failure::OutOfMemory),
+        Uneditable::Unread(Unmade::Failed(failure)) => Some(failure),
+        _ => None,
+    }
+}

@@ -1,0 +1,215 @@
+Options of edits: values of URLs, texts from files, what is told, backups as sed takes them.
+
+  $ printf '<A HREF=/a?utm_x=1&amp;b=%%20#c>x</A>\n<a href="https://b.org/?utm_y">y</a>\n<a href="?a&b">z</a>\n' >links
+
+Parameters of a URL's query go by their names, as they are written; the rest stays byte for byte, and a query of which nothing is left loses its mark.
+
+  $ tl set a href --drop-query 'utm_*' links
+  <A HREF="/a?b=%20#c">x</A>
+  <a href="https://b.org/">y</a>
+  <a href="?a&b">z</a>
+  $ tl set a href --drop-query b links
+  <A HREF="/a?utm_x=1#c">x</A>
+  <a href="https://b.org/?utm_y">y</a>
+  <a href="?a">z</a>
+  $ tl set a href --drop-query '*' links
+  <A HREF="/a#c">x</A>
+  <a href="https://b.org/">y</a>
+  <a href="">z</a>
+  $ printf '<a href="x?fbclid=1&Utm_x&utm_y&&">' | tl set a href --drop-query '*clid'
+  <a href="x?Utm_x&amp;utm_y&amp;&amp;"> (no-eol)
+  $ tl set a href --drop-query 'u*x' links | head -1
+  <A HREF="/a?b=%20#c">x</A>
+  $ tl set a href --drop-query none links | cmp - links
+  $ tl set a href --drop-query none links >/dev/null
+  [1]
+  $ tl set a href --drop-query 'a*b*' links
+  tl: no names, in which one * may stand: 'a*b*' (err)
+  [2]
+  $ tl set a href --drop-query '' links
+  tl: no names, in which one * may stand: '' (err)
+  [2]
+
+URLs are made absolute by the URL of the page and its base; those that need no base stay as they are, and so does what is no URL.
+
+  $ printf '<base href=/d/><a href=x>1</a><a href="#top">2</a><A HREF=HTTP://B.org>3</A><a href="mailto:a b">4</a><a href="http://[">5</a><a>6</a>' >page
+  $ tl set a href --base https://a.org/b/c page | tr '>' '\n' | grep -i '<a'
+  <a href="https://a.org/d/x"
+  <a href="https://a.org/d/#top"
+  <A HREF=HTTP://B.org
+  <a href="mailto:a b"
+  <a href="http://["
+  <a
+  $ printf '<img srcset="a.png 1x, /b.png 2x,https://c/d" src=" a.png ">' | tl set img srcset --base https://a.org/b/
+  <img srcset="https://a.org/b/a.png 1x, https://a.org/b.png 2x,https://c/d" src=" a.png "> (no-eol)
+  $ printf '<img src=" a.png " title=a.png>' | tl set img src --base https://a.org/b/
+  <img src=" https://a.org/b/a.png " title=a.png> (no-eol)
+  $ printf '<img src=a.png title=a.png>' | tl set img title --base https://a.org/b/
+  <img src=a.png title=a.png> (no-eol)
+  [1]
+  $ printf '<meta http-equiv=refresh content="3; url=x"><a ping="x y">' | tl set '*' content --base https://a.org/ | tl set a ping --base https://a.org/
+  <meta http-equiv=refresh content="3; url=https://a.org/x"><a ping="https://a.org/x https://a.org/y"> (no-eol)
+  $ printf '<svg><use xlink:href=a.svg#b /></svg>' | tl set use xlink:href --base https://a.org/
+  <svg><use xlink:href="https://a.org/a.svg#b" /></svg> (no-eol)
+  $ tl set a href --base a.org page
+  tl: no URL: a.org: relative URL without a base (err)
+  [2]
+  $ tl set a href --base https://a.org --drop-query x page 2>&1 | head -1
+  error: the argument '--base <URL>' cannot be used with '--drop-query <GLOB>'
+  $ tl set a href --replace a b --base https://a.org page 2>&1 | head -1
+  error: the argument '--replace <RE> <TO>' cannot be used with '--base <URL>'
+
+  $ printf '<a href="http://a.org/?p=1&amp;q">x</a><A HREF=/b CLASS=k>y</A>' >links.html
+  $ tl set a href --drop-query p links.html
+  <a href="http://a.org/?q">x</a><A HREF=/b CLASS=k>y</A> (no-eol)
+  $ tl set a href --base https://b.org/c/d.html links.html
+  <a href="http://a.org/?p=1&amp;q">x</a><A HREF="https://b.org/b" CLASS=k>y</A> (no-eol)
+
+Ids for headings: the words of each in lower case, another one where that is used; what stands there stays.
+
+  $ printf '<h2>Big <b>Bread</b> & Butter</h2><h2 id=x>Y</h2><H2>Y</H2><h2> y </h2><h2>Y</h2><p id=y-2><h2></h2><h2><img></h2><h2 id>z</h2>' >heads
+  $ tl set h2 id --from-text heads
+  <h2 id="big-bread-&amp;-butter">Big <b>Bread</b> & Butter</h2><h2 id=x>Y</h2><H2 id="y">Y</H2><h2 id="y-3"> y </h2><h2 id="y-4">Y</h2><p id=y-2><h2></h2><h2><img></h2><h2 id>z</h2> (no-eol)
+  $ tl set h2 id --from-text heads | tl set h2 id --from-text >/dev/null
+  [1]
+  $ printf '<h1>A</h1><h1>A</h1><h1>A-2</h1>' | tl set h1 ID --from-text
+  <h1 id="a">A</h1><h1 id="a-2">A</h1><h1 id="a-2-2">A-2</h1> (no-eol)
+  $ tl set h2 id --from-text --prefix x heads 2>&1 | head -1
+  error: the argument '--from-text' cannot be used with '--prefix <TEXT>'
+
+That nothing is found is no failure, where that is said.
+
+  $ printf '<p>x\n<p>y\n' >two
+  $ tl set i k v two >/dev/null
+  [1]
+  $ tl set --ok i k v two
+  <p>x
+  <p>y
+  $ tl remove --ok -i i two
+  $ tl set --ok p k v none
+  tl: none: No such file or directory (os error 2) (err)
+  [4]
+
+How many places each page has is said on standard error.
+
+  $ tl set -v p k v two
+  <p k="v">x
+  <p k="v">y
+  tl: two: 2 places (err)
+  $ tl set -v --dry-run p:first-child k v two
+  two:1:1
+  tl: two: 1 place (err)
+  $ cp two three
+  $ tl set -iv i k v two three
+  tl: two: 0 places (err)
+  tl: three: 0 places (err)
+  [1]
+  $ tl set -v p k v none
+  tl: none: No such file or directory (os error 2) (err)
+  [4]
+
+What changes is written as a diff; with -i the page is changed too.
+
+  $ printf '<ul>\n<li>a\n<li>b\n<li>c\n<li>d\n<li>e\n<li>f\n<li>g\n<li>h\n<li>i\n<li>j\n</ul>' >list
+  $ tl set --diff 'li:nth-child(2), li:nth-child(10)' k v list
+  --- list
+  +++ list
+  @@ -1,6 +1,6 @@
+   <ul>
+   <li>a
+  -<li>b
+  +<li k="v">b
+   <li>c
+   <li>d
+   <li>e
+  @@ -8,5 +8,5 @@
+   <li>g
+   <li>h
+   <li>i
+  -<li>j
+  +<li k="v">j
+   </ul>
+  \ No newline at end of file
+  $ tl remove --diff 'li:nth-child(-n+9)' list | grep -c '^-<'
+  9
+  $ tl after --html --diff ul '\n<hr>' list
+  --- list
+  +++ list
+  @@ -9,4 +9,4 @@
+   <li>h
+   <li>i
+   <li>j
+  -</ul>
+  \ No newline at end of file
+  +</ul>\n<hr>
+  \ No newline at end of file
+  $ seq 40 | sed 's/^/<li>/' >many
+  $ tl set --diff 'li:nth-child(n+3):nth-child(-n+25)' k v many | grep -c '^[-+]<'
+  46
+  $ tl remove --diff 'li:nth-child(n+3):nth-child(-n+25)' many | grep -c '^[-+]<'
+  23
+  $ cp list changed
+  $ tl set --diff -i ul k v changed
+  --- changed
+  +++ changed
+  @@ -1,4 +1,4 @@
+  -<ul>
+  +<ul k="v">
+   <li>a
+   <li>b
+   <li>c
+  $ head -1 changed
+  <ul k="v">
+  $ tl set --diff ul k v changed
+  $ tl set --diff i k v changed
+  [1]
+  $ tl set --diff 'li:nth-child(5)' k v list | (cp list again; patch -s again); tl set 'li:nth-child(5)' k v list | cmp - again
+  $ tl set --diff --dry-run ul k v list 2>&1 | head -1
+  error: the argument '--diff' cannot be used with '--dry-run'
+
+Backups as sed takes them: a suffix that stands right behind -i and begins with no letter, and --backup beside -i.
+
+  $ printf '<p>1' >page
+  $ tl set -i.bak p k v page
+  $ cat page page.bak
+  <p k="v">1<p>1 (no-eol)
+  $ tl set p k w -i~ page
+  $ cat page page~
+  <p k="w">1<p k="v">1 (no-eol)
+  $ tl set -i --backup .old p k x page
+  $ cat page page.old
+  <p k="x">1<p k="w">1 (no-eol)
+  $ tl set -i.bak --dry-run p k v page 2>&1 | head -1
+  error: the argument '--backup <SUFFIX>' cannot be used with '--dry-run'
+  $ tl append p -- -i.bak page
+  <p k="x">1-i.bak (no-eol)
+
+A text may come from a file, or from standard input; one that begins with @ has two of them, and one that begins with - stands behind --.
+
+  $ printf '<hr>\n' >rule
+  $ tl prepend --html p @rule page
+  <p k="x"><hr>
+  1 (no-eol)
+  $ tl fill p @rule page
+  <p k="x">&lt;hr>
+  $ printf 'a & b' | tl fill p @- page
+  <p k="x">a &amp; b (no-eol)
+  $ tl append p @@x page
+  <p k="x">1@x (no-eol)
+  $ tl append -- p '- x' page
+  <p k="x">1- x (no-eol)
+  $ tl append p '- x' page 2>&1 | head -1
+  error: unexpected argument '- ' found
+  $ tl append p @none page
+  tl: none: No such file or directory (os error 2) (err)
+  [4]
+  $ printf '\377' >wrong
+  $ tl append p @wrong page
+  tl: wrong: no UTF-8 at byte 0 (err)
+  [2]
+  $ printf x | tl append p @- -
+  tl: standard input is no page where it is what is put (err)
+  [2]
+  $ printf x | tl append p @-
+  tl: standard input is no page where it is what is put (err)
+  [2]
