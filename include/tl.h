@@ -196,6 +196,16 @@ tl_status tl_list_options(const tl_lists *lists, uint8_t *out, size_t room, size
  * why, and in which list the word stands. Lists that are a policy have no such word: that is refused, and `*cause` is 0. */
 tl_status tl_refused_word(const tl_lists *lists, uint8_t *out, size_t room, size_t *needed, uint8_t *cause);
 
+/* The name of the encoding that a page is in, as "windows-1252": that of its byte-order mark, else of this label of the Encoding standard,
+ * else, where the label is empty, what the page says, as browsers tell it. What is no label is refused. It takes no memory. */
+tl_status tl_encoding_of(const uint8_t *label, size_t label_len, const uint8_t *page, size_t page_len, uint8_t *out, size_t room,
+                         size_t *needed);
+
+/* The text of a page in UTF-8, which the other calls read, by the encoding that `tl_encoding_of` tells. U+FFFD stands for bytes that are
+ * wrong; a byte-order mark stays, and is passed over by what reads the text. */
+tl_status tl_decode_page(const uint8_t *label, size_t label_len, const uint8_t *page, size_t page_len, uint8_t *out, size_t room,
+                         size_t *needed);
+
 /* The version, as "0.1.0". It takes no memory. */
 tl_status tl_version(uint8_t *out, size_t room, size_t *needed);
 
@@ -241,6 +251,56 @@ uint8_t tl_is_quirks(tl_document *document);
 
 /* The whole page as markup, as the HTML standard serializes its tree. */
 tl_status tl_document_html(tl_document *document, uint8_t *out, size_t room, size_t *needed);
+
+/* The same with a tag on each line where white space doesn't count, as `tl print --pretty`. */
+tl_status tl_document_pretty_html(tl_document *document, uint8_t *out, size_t room, size_t *needed);
+
+/* All nodes at once, for those who walk through a whole tree: of each node four numbers, in the order of the tree. They are its kind (TL_ELEMENT
+ * ..), its namespace (TL_HTML ..), the number of the node that it stands in or TL_NO_NODE, and that behind the last node below it. */
+tl_status tl_nodes(tl_document *document, uint32_t *numbers, size_t room, size_t *needed);
+
+/* What stands in each node itself, in the order of the tree, and a byte 255 behind each, which no UTF-8 has: of a text and of a comment what
+ * they say; of an element its name, and its keys and values with a byte 0 before each, as "a\0href\0/x"; of others nothing. */
+tl_status tl_parts(tl_document *document, uint8_t *out, size_t room, size_t *needed);
+
+/* Each URL that an attribute of the document holds, as `tl links` lists them, in the order of the page: the number of the element, how many
+ * bytes the key and the URL have, each in 8 bytes with the lowest first; and the key and the URL. `tl_next_link` reads them. Of a `srcset`
+ * each of its URLs is one. */
+tl_status tl_document_links(tl_document *document, uint8_t *out, size_t room, size_t *needed);
+
+/* A link, where it stands in the answer. */
+typedef struct {
+    const uint8_t *key, *url;
+    size_t key_len, url_len;
+    uint32_t node;
+} tl_link;
+
+/* A number in 8 bytes, the lowest first. */
+static inline uint64_t tl_number_at(const uint8_t *bytes) {
+    uint64_t number = 0;
+    for (int place = 7; place >= 0; place--) number = number << 8 | bytes[place];
+    return number;
+}
+
+/* Reads the link at a place of an answer of `tl_document_links` and moves the place behind it; false at the end:
+ * for (const uint8_t *at = out; tl_next_link(&at, out + needed, &link);) .. */
+static inline bool tl_next_link(const uint8_t **at, const uint8_t *end, tl_link *link) {
+    const uint8_t *head = *at;
+    if (head == end) return false;
+    link->node = (uint32_t)tl_number_at(head);
+    link->key_len = (size_t)tl_number_at(head + 8);
+    link->url_len = (size_t)tl_number_at(head + 16);
+    link->key = head + 24;
+    link->url = link->key + link->key_len;
+    *at = link->url + link->url_len;
+    return true;
+}
+
+/* Where a link leads from a base, by the URL standard: "https://a.b/c/d" from "https://a.b/c/" and "d". The base of a page is its own URL,
+ * or, where it has a `base` with an `href`, where that leads from there. It is refused where the base is no URL, or the link is none from
+ * there; a base that is no UTF-8 isn't understood. */
+tl_status tl_join_url(const uint8_t *base, size_t base_len, const uint8_t *link, size_t link_len,
+                      uint8_t *out, size_t room, size_t *needed);
 
 /* What stands where there is no node. */
 #define TL_NO_NODE UINT32_MAX
@@ -295,6 +355,11 @@ static inline const char *tl_cause_text(uint8_t cause) {
     case 25: return "what begins here is in this element by its tags or to browsers, and not by both";
     default: return "no cause";
     }
+}
+
+/* Why a call did nothing, in words: the cause, where it says one, else the status. */
+static inline const char *tl_error_message(tl_status status, uint8_t cause) {
+    return cause == TL_NO_CAUSE ? tl_status_text(status) : tl_cause_text(cause);
 }
 
 /* The numbers of the elements where a selector of CSS holds (docs/COMMANDS.md says which are read), rising, without those in the
@@ -458,11 +523,8 @@ typedef struct {
 static inline bool tl_next_pair(const uint8_t **at, const uint8_t *end, tl_pair *pair) {
     const uint8_t *head = *at;
     if (head == end) return false;
-    pair->key_len = pair->value_len = 0;
-    for (int place = 7; place >= 0; place--) {
-        pair->key_len = pair->key_len << 8 | head[place];
-        pair->value_len = pair->value_len << 8 | head[place + 8];
-    }
+    pair->key_len = (size_t)tl_number_at(head);
+    pair->value_len = (size_t)tl_number_at(head + 8);
     pair->key = head + 16;
     pair->value = pair->key + pair->key_len;
     *at = pair->value + pair->value_len;
@@ -482,6 +544,62 @@ tl_status tl_node_inner_html(tl_document *document, uint32_t node, uint8_t *out,
 /* What a node says (`textContent`): a text and a comment what they say, any other node what the texts below it say, one after the other,
  * without those in the contents of a `template` below it. A doctype says nothing. */
 tl_status tl_node_text(tl_document *document, uint32_t node, uint8_t *out, size_t room, size_t *needed);
+
+/* The text of what is below a node as a browser shows it without style sheets (`innerText`), as `tl text -w`: blocks on lines of their own,
+ * one space between words, without scripts and styles. */
+tl_status tl_node_readable_text(tl_document *document, uint32_t node, uint8_t *out, size_t room, size_t *needed);
+
+/* A node with what is below it as JSON: an array of one object, as `tl select --json --tree` writes it. */
+tl_status tl_node_json(tl_document *document, uint32_t node, uint8_t *out, size_t room, size_t *needed);
+
+/* A `table` element as CSV, as `tl table`: a line for each row, with a value for each column, which is the readable text of the cell that
+ * covers the place. A node that is no `table` is refused. A few cells can span very many places: lines with more bytes than `limit` are
+ * not understood; `tl table` takes 65536, and 64 for each byte of the page. */
+tl_status tl_table_csv(tl_document *document, uint32_t node, size_t limit, uint8_t *out, size_t room, size_t *needed);
+
+/* The line of a place of the page, from 1, and into `*column` how many bytes stand before it there. */
+static inline size_t tl_line_at(const uint8_t *page, size_t place, size_t *column) {
+    size_t line = 1;
+    *column = 0;
+    for (size_t at = 0; at < place; at++) {
+        *column += 1;
+        if (page[at] == '\n') {
+            line += 1;
+            *column = 0;
+        }
+    }
+    return line;
+}
+
+/* A name of UTF-8 as it stands in a selector, so that each of its characters is one of the name (`CSS.escape`). `*needed` is the number of
+ * its bytes; where that is more than `room` nothing is written, which is TL_NO_ROOM. */
+static inline tl_status tl_css_escape(const uint8_t *name, size_t name_len, uint8_t *out, size_t room, size_t *needed) {
+    for (int is_written = 0; is_written < 2; is_written++) {
+        size_t len = 0;
+        for (size_t at = 0; at < name_len; at++) {
+            const uint8_t byte = name[at], digits[] = "0123456789abcdef";
+            const bool is_digit = byte >= '0' && byte <= '9', is_letter = (byte | 32) >= 'a' && (byte | 32) <= 'z';
+            const bool is_first = at == 0 || (at == 1 && name[0] == '-');
+            uint8_t part[4] = {byte, 0, 0, 0};
+            size_t part_len = 1;
+            if (byte == 0) {
+                part[0] = 0xef, part[1] = 0xbf, part[2] = 0xbd, part_len = 3;
+            } else if (byte < 32 || byte == 127 || (is_digit && is_first)) {
+                part[0] = '\\', part_len = 1;
+                if (byte >= 16) part[part_len++] = digits[byte >> 4];
+                part[part_len++] = digits[byte & 15];
+                part[part_len++] = ' ';
+            } else if ((byte == '-' && name_len == 1) || (byte < 128 && !is_digit && !is_letter && byte != '-' && byte != '_')) {
+                part[0] = '\\', part[1] = byte, part_len = 2;
+            }
+            for (size_t of = 0; of < part_len; of++, len++)
+                if (is_written) out[len] = part[of];
+        }
+        *needed = len;
+        if (len > room) return TL_NO_ROOM;
+    }
+    return TL_DONE;
+}
 
 #ifdef __cplusplus
 }

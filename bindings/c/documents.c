@@ -317,6 +317,13 @@ static void asked_of_none(tl_document *document) {
     LEAVES(tl_node_inner_html(document, 0, OUT), TL_REFUSED, 0);
     LEAVES(tl_document_html(document, OUT), TL_REFUSED, 0);
     LEAVES(tl_node_text(document, 0, OUT), TL_REFUSED, 0);
+    LEAVES(tl_nodes(document, NUMBERS), TL_REFUSED, 0);
+    LEAVES(tl_parts(document, OUT), TL_REFUSED, 0);
+    LEAVES(tl_document_links(document, OUT), TL_REFUSED, 0);
+    LEAVES(tl_document_pretty_html(document, OUT), TL_REFUSED, 0);
+    LEAVES(tl_node_readable_text(document, 0, OUT), TL_REFUSED, 0);
+    LEAVES(tl_node_json(document, 0, OUT), TL_REFUSED, 0);
+    LEAVES(tl_table_csv(document, 0, 1000, OUT), TL_REFUSED, 0);
     FIRST(document, "a", TL_REFUSED, TL_NO_NODE, 0, TL_NO_CAUSE);
     CLOSEST(document, 0, "a", TL_REFUSED, TL_NO_NODE, 0, TL_NO_CAUSE);
     LEAVES_BELOW(document, 0, "a", TL_REFUSED, 0, TL_NO_CAUSE);
@@ -325,6 +332,89 @@ static void asked_of_none(tl_document *document) {
     MATCHES(document, 0, "a", TL_REFUSED, 0, 0, TL_NO_CAUSE);
     WRONG(document, "a[", 2, TL_NO_NAME);
     WRONG(document, "a", 0, TL_NO_CAUSE);
+}
+
+/* What is asked of all nodes of that page at once. */
+static void asked_of_all(tl_document *document) {
+    uint32_t all[4 * NODES];
+    size_t count, at = 0;
+    uint8_t parts[256], *here = parts;
+    CHECK(tl_nodes(document, all, 4 * NODES, &count) == TL_DONE && count == 4 * NODES);
+    for (uint32_t node = 0; node < NODES; node++, at += 4) {
+        CHECK(all[at] == tl_node_kind(document, node) && all[at + 1] == tl_node_namespace(document, node));
+        CHECK(all[at + 2] == tl_node_parent(document, node) && all[at + 3] == tl_node_end(document, node));
+    }
+    LEAVES(tl_nodes(document, NUMBERS), TL_NO_ROOM, 4 * NODES);
+    CHECK(tl_parts(document, parts, sizeof parts, &count) == TL_DONE);
+    for (uint32_t node = 0; node < NODES; node++) {
+        uint8_t *end = memchr(here, 255, (size_t)(parts + count - here));
+        CHECK(end != NULL);
+        if (tl_node_kind(document, node) == TL_ELEMENT) {
+            CHECK(tl_node_name(document, node, OUT) == TL_DONE && memcmp(here, out, needed) == 0);
+            CHECK(needed == (size_t)(end - here) || here[needed] == 0);
+        } else {
+            CHECK(tl_node_text(document, node, OUT) == TL_DONE && needed == (size_t)(end - here) && memcmp(here, out, needed) == 0);
+        }
+        is_rest(sizeof out);
+        here = end + 1;
+    }
+    CHECK(here == parts + count);
+    static const char first[] = "html\377head\377body\377nav\377a\0href\0?a=1&b=2\0hidden\0\0@click\0f()\377y\377a\377z";
+    CHECK(memcmp(parts, first, sizeof first - 1) == 0);
+    LEAVES(tl_parts(document, out, 3, &needed), TL_NO_ROOM, count);
+}
+
+/* What is taken out of it. */
+static void taken_out(tl_document *document) {
+    uint8_t bytes[256];
+    size_t count;
+    tl_link link;
+    const uint8_t *at = bytes;
+    PUTS(tl_node_readable_text(document, 2, OUT), "z\n\nonetwo"); /* (the first link is hidden) */
+    PUTS(tl_node_readable_text(document, 5, OUT), "");
+    LEAVES(tl_node_readable_text(document, 2, out, 8, &needed), TL_NO_ROOM, 9);
+    LEAVES(tl_node_readable_text(document, NODES, OUT), TL_REFUSED, 0);
+    PUTS(tl_node_json(document, 12, OUT), "[{\"attributes\":{},\"name\":null,\"node\":12,\"start\":85,\"end\":88,\"text\":\"two\"}]");
+    LEAVES(tl_node_json(document, NODES, OUT), TL_REFUSED, 0);
+    CHECK(tl_document_pretty_html(document, bytes, sizeof bytes, &count) == TL_DONE);
+    CHECK(memcmp(bytes, "<html>\n  <head></head>\n  <body>\n    <nav><a href=", 49) == 0);
+    LEAVES(tl_document_pretty_html(document, out, 9, &needed), TL_NO_ROOM, count);
+    CHECK(tl_document_links(document, bytes, sizeof bytes, &count) == TL_DONE && count == 24 + 4 + 8);
+    CHECK(tl_next_link(&at, bytes + count, &link) && link.node == 4 && link.key_len == 4 && link.url_len == 8);
+    CHECK(memcmp(link.key, "href", 4) == 0 && memcmp(link.url, "?a=1&b=2", 8) == 0 && !tl_next_link(&at, bytes + count, &link));
+    LEAVES(tl_document_links(document, out, 9, &needed), TL_NO_ROOM, 36);
+    LEAVES(tl_table_csv(document, 3, 1000, OUT), TL_REFUSED, 0);
+    LEAVES(tl_table_csv(document, 5, 1000, OUT), TL_REFUSED, 0);
+    LEAVES(tl_table_csv(document, NODES, 1000, OUT), TL_REFUSED, 0);
+}
+
+static void of_tables(void) {
+    tl_document document = TL_NO_DOCUMENT;
+    CHECK(tl_parse_html(BYTES("<svg></svg><table><tr><th colspan=2>a,b<tr><td>\"<td>d</table>"), &document) == TL_DONE);
+    PUTS(tl_table_csv(&document, 4, 1000, OUT), "\"a,b\",\"a,b\"\n\"\"\"\",d\n");
+    PUTS(tl_table_csv(&document, 4, 19, OUT), "\"a,b\",\"a,b\"\n\"\"\"\",d\n");
+    LEAVES(tl_table_csv(&document, 4, 18, OUT), TL_NOT_UNDERSTOOD, 0);
+    LEAVES(tl_table_csv(&document, 4, 1000, out, 18, &needed), TL_NO_ROOM, 19);
+    tl_free(&document);
+}
+
+/* Where links lead, and what stands in the header alone. */
+static void of_no_document(void) {
+    size_t column;
+    PUTS(tl_join_url(BYTES("https://a.org/b/c"), BYTES("../d?\xc3\xa9"), OUT), "https://a.org/d?%C3%A9");
+    PUTS(tl_join_url(BYTES("https://a.org"), BYTES(""), OUT), "https://a.org/");
+    LEAVES(tl_join_url(BYTES("https://a.org"), BYTES(""), out, 13, &needed), TL_NO_ROOM, 14);
+    LEAVES(tl_join_url(BYTES("a.org"), BYTES("x"), OUT), TL_REFUSED, 0);
+    LEAVES(tl_join_url(BYTES("https://a.org"), BYTES("http://["), OUT), TL_REFUSED, 0);
+    LEAVES(tl_join_url(BYTES("https://\xff"), BYTES("x"), OUT), TL_NOT_UNDERSTOOD, 0);
+    PUTS(tl_css_escape(BYTES("1a.b\0\x1f-_\xc3\xa9"), OUT), "\\31 a\\.b\xef\xbf\xbd\\1f -_\xc3\xa9");
+    PUTS(tl_css_escape(BYTES("-1"), OUT), "-\\31 ");
+    PUTS(tl_css_escape(BYTES("-"), OUT), "\\-");
+    PUTS(tl_css_escape(BYTES("\x01\x7f"), OUT), "\\1 \\7f ");
+    LEAVES(tl_css_escape(BYTES("a b"), out, 3, &needed), TL_NO_ROOM, 4);
+    CHECK(tl_line_at((const uint8_t *)"a\nbc\n", 3, &column) == 2 && column == 1);
+    CHECK(strcmp(tl_error_message(TL_REFUSED, TL_NO_NAME), "a name is missing") == 0);
+    CHECK(strcmp(tl_error_message(TL_OUT_OF_MEMORY, TL_NO_CAUSE), "out of memory") == 0);
 }
 
 /* A doctype (0), a template (4) with contents (5) in which an item stands (6), a svg (8) with a use (9), a formula (10) with an mi (11),
@@ -374,6 +464,8 @@ static void calls(void) {
     memset(lent, '<', sizeof page - 1);
     free(lent);
     asked_of_nodes(&document);
+    asked_of_all(&document);
+    taken_out(&document);
     asked_by_selectors(&document);
 
     /* A page that isn't understood leaves the document as it was; another page gives it back. */
@@ -445,9 +537,15 @@ static void without_memory(tl_document *document) {
     LEAVES(tl_node_attributes(document, NODES, OUT), TL_REFUSED, 0);
     LEAVES(tl_node_outer_html(document, NODES, OUT), TL_REFUSED, 0);
     LEAVES(tl_node_inner_html(document, NODES, OUT), TL_REFUSED, 0);
+    LEAVES(tl_node_readable_text(document, NODES, OUT), TL_REFUSED, 0);
+    LEAVES(tl_node_json(document, NODES, OUT), TL_REFUSED, 0);
     CHECK(tl_parse_html(BYTES("\xff"), document) == TL_NOT_UNDERSTOOD);
     tl_free(document);
     LEAVES(tl_document_html(document, OUT), TL_REFUSED, 0);
+    LEAVES(tl_document_pretty_html(document, OUT), TL_REFUSED, 0);
+    LEAVES(tl_nodes(document, NUMBERS), TL_REFUSED, 0);
+    LEAVES(tl_parts(document, OUT), TL_REFUSED, 0);
+    LEAVES(tl_document_links(document, OUT), TL_REFUSED, 0);
     CHECK(refused == 0);
     refused = -1;
 }
@@ -469,6 +567,17 @@ static void refusals(void) {
     PUTS(TL_DONE, "one<!-- no --><b>two</b>");
     RUNS_OUT(tl_node_attributes(&document, 4, OUT));
     CHECK(needed == 75 && is_rest(75) == 1);
+    static uint8_t whole[1024];
+    static uint32_t all[4 * NODES];
+    RUNS_OUT(tl_nodes(&document, all, 4 * NODES, &needed));
+    RUNS_OUT(tl_parts(&document, whole, sizeof whole, &needed));
+    RUNS_OUT(tl_document_links(&document, whole, sizeof whole, &needed));
+    RUNS_OUT(tl_document_pretty_html(&document, whole, sizeof whole, &needed));
+    RUNS_OUT(tl_node_json(&document, 3, whole, sizeof whole, &needed));
+    RUNS_OUT(tl_node_readable_text(&document, 3, OUT));
+    PUTS(TL_DONE, "z");
+    RUNS_OUT(tl_join_url(BYTES("https://a.org"), BYTES("x"), OUT));
+    PUTS(TL_DONE, "https://a.org/x");
     RUNS_OUT_OF(tl_select_css(&document, BYTES("nav > a"), NUMBERS, &place, &cause), left(status, TL_OUT_OF_MEMORY, 0));
     CHECK(found(TL_DONE, (const uint32_t[]){4, 6}, 2));
     RUNS_OUT_OF(tl_node_select_css(&document, 3, BYTES("> a"), NUMBERS, &place, &cause), left(status, TL_OUT_OF_MEMORY, 0));
@@ -491,6 +600,8 @@ int main(void) {
     for (int turn = 0; turn < 100; turn++) {
         calls();
         of_parts();
+        of_tables();
+        of_no_document();
     }
     out_of_proportion();
     refusals();

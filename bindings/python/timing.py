@@ -2,6 +2,7 @@
 table. What takes more than 20 seconds is ended, and `-` stands there.
 
     python3 timing.py PAGE..             as python3 timing.py pages/*.html
+    python3 timing.py --all PAGE..       all pages together by each, beside lxml alone: pages of 600 KB at most, which are UTF-8
     python3 timing.py --crawl FOLDER     pages a second and a core of examples/crawl.py in a cluster of two workers, read by each of them
 """
 import functools
@@ -24,6 +25,50 @@ def tlhtml_links(page):
 def tlhtml_text(page):
     with tlhtml.Document(page) as document:
         return document.text
+
+
+def tlhtml_names(page):
+    with tlhtml.Document(page) as document:
+        return [it.name for it in document.select("*")]
+
+
+def tlhtml_attributes(page):
+    with tlhtml.Document(page) as document:
+        return [it.attrs for it in document.select("*")]
+
+
+def tlhtml_paragraphs(page):
+    with tlhtml.Document(page) as document:
+        return [it.text for it in document.select("p")]
+
+
+def tlhtml_strings(page):
+    with tlhtml.Document(page) as document:
+        return list(document.strings)
+
+
+def lxml_names(page):
+    import lxml.html
+
+    return [it.tag for it in lxml.html.fromstring(page).iter("*")]
+
+
+def lxml_attributes(page):
+    import lxml.html
+
+    return [dict(it.attrib) for it in lxml.html.fromstring(page).iter("*")]
+
+
+def lxml_paragraphs(page):
+    import lxml.html
+
+    return [it.text_content() for it in lxml.html.fromstring(page).iterfind(".//p")]
+
+
+def lxml_strings(page):
+    import lxml.html
+
+    return list(lxml.html.fromstring(page).itertext())
 
 
 def lxml_links(page):
@@ -75,6 +120,16 @@ WORKS = [
     ("sanitize", "bleach", ("bleach",), bleach_safe),
 ]
 
+# What is asked of all pages together, beside lxml.
+ALL = [
+    ("links", tlhtml_links, lxml_links),
+    ("text", tlhtml_text, lxml_text),
+    ("texts, one by one", tlhtml_strings, lxml_strings),
+    ("text of each paragraph", tlhtml_paragraphs, lxml_paragraphs),
+    ("names of all elements", tlhtml_names, lxml_names),
+    ("attributes of all elements", tlhtml_attributes, lxml_attributes),
+]
+
 
 class Late(Exception):
     """What was asked took too long."""
@@ -107,6 +162,32 @@ def least(call, page, rounds=5, enough=0.2, most=20):
         return "-"
     finally:
         signal.setitimer(signal.ITIMER_PROF, 0)
+
+
+def read(file):
+    """A page as a text, or None for what is no UTF-8, has more than 600 KB, or says its encoding in XML, which lxml takes no text of."""
+    with open(file, "rb") as it:
+        page = it.read()
+    try:
+        return page.decode() if len(page) <= 600_000 and b"<?xml" not in page[:100] else None
+    except UnicodeDecodeError:
+        return None
+
+
+def main_all(files, rounds=5):
+    """Milliseconds of the processor for all pages, the least of some rounds, in which both take turns."""
+    pages = [it for it in map(read, files) if it and it.strip()]
+    print(f"{len(pages)} pages, {sum(map(len, pages)) // 1024} KB\n\n| | tlhtml | lxml | |\n|---|---|---|---|")
+    for work, *calls in ALL:
+        least_of = [float("inf")] * 2
+        for _ in range(rounds):
+            for at, call in enumerate(calls):
+                start = time.process_time()
+                for page in pages:
+                    call(page)
+                least_of[at] = min(least_of[at], time.process_time() - start)
+        own, other = least_of
+        print(f"| {work} | {1000 * own:.0f} | {1000 * other:.0f} | {own / other:.2f} |", flush=True)
 
 
 def crawl_lxml(page):
@@ -158,4 +239,9 @@ def main(files):
 
 
 if __name__ == "__main__":
-    main_crawl(sys.argv[2]) if sys.argv[1:2] == ["--crawl"] else main(sys.argv[1:])
+    if sys.argv[1:2] == ["--crawl"]:
+        main_crawl(sys.argv[2])
+    elif sys.argv[1:2] == ["--all"]:
+        main_all(sys.argv[2:])
+    else:
+        main(sys.argv[1:])

@@ -20,8 +20,6 @@ from typing import Any, Callable, Iterator, NamedTuple
 from tlhtml import Document, Error
 
 Row = dict[str, Any]
-# What has a text that readers don't see.
-HIDDEN = "script, style, title, template, noscript"
 
 
 class Source(NamedTuple):
@@ -46,31 +44,12 @@ def is_page(name: str) -> bool:
     return name.lower().endswith((".html", ".htm"))
 
 
-def texts(document: Document) -> Iterator[str]:
-    """The texts that readers see. What has nothing hidden in it is asked as a whole."""
-    hidden = document.select(HIDDEN)
-    numbers = {it.number for it in hidden}
-    above: set[int] = set()
-    for node in hidden:
-        for at in node.parents:
-            if at.number in above:
-                break
-            above.add(at.number)
-    left = list(document.children)[::-1]
-    while left:
-        node = left.pop()
-        if node.number in above:
-            left += list(node.children)[::-1]
-        elif node.number not in numbers and node.kind != "comment":
-            yield node.text
-
-
 def asked(page: bytes) -> Row:
     """What is asked of a page."""
     with Document(page) as document:
         title = document.select_one("title")
         links = [it["href"] for it in document.select("a[href]")]
-        return {"title": title and title.text.strip(), "links": links, "text": " ".join(" ".join(texts(document)).split())}
+        return {"title": title and title.text.strip(), "links": links, "text": " ".join(document.readable_text.split())}
 
 
 def row_of(source: Source, ask: Callable[[bytes], Row] = asked) -> Row:

@@ -17,14 +17,14 @@ PAGES = 400
 
 
 def put_pages(folder):
-    """So many pages in a folder, the last of which can't be read."""
+    """So many pages in a folder, one in Latin-1, and one that can't be read."""
     for number in range(PAGES):
         page = f"<title>Page {number}</title><script>1 < 2</script><p>{'text ' * 400}<a href=/{number}?a=1&amp;b>x &amp; y</a>"
         os.makedirs(f"{folder}/{number % 7}", exist_ok=True)
         with open(f"{folder}/{number % 7}/{number}.html", "w", encoding="utf-8") as it:
             it.write(page)
     with open(f"{folder}/latin.html", "wb") as it:
-        it.write(b"<title>caf\xe9</title>")
+        it.write(b"<meta charset=latin1><title>caf\xe9</title>")
     os.symlink("nowhere", f"{folder}/gone.html")
 
 
@@ -34,11 +34,11 @@ def names():
 
 class Checks(unittest.TestCase):
     def check(self, rows):
-        """Each page has one row, and two of them say why they have nothing."""
+        """Each page has one row, and one of them says why it has nothing."""
         self.assertEqual(sorted(it["page"] for it in rows), names())
         by_name = {it["page"]: it for it in rows}
-        self.assertEqual({it["page"] for it in rows if it["error"]}, {"latin.html", "gone.html"})
-        self.assertIn("UnicodeDecodeError", by_name["latin.html"]["error"])
+        self.assertEqual({it["page"] for it in rows if it["error"]}, {"gone.html"})
+        self.assertEqual(by_name["latin.html"]["title"], "café")
         self.assertIn("FileNotFoundError", by_name["gone.html"]["error"])
         for number in range(PAGES):
             row = by_name[f"{number % 7}/{number}.html"]
@@ -60,7 +60,7 @@ class Rows(Checks):
                 it.add(f"{folder}/pages", "pages")
             rows = crawl.rows_of(crawl.sources(f"{folder}/pages.tar"))
             self.assertEqual(sorted(it["page"] for it in rows), [f"pages/{it}" for it in names() if it != "gone.html"])
-            self.assertEqual(sum(it["error"] is None for it in rows), PAGES)
+            self.assertEqual(sum(it["error"] is None for it in rows), PAGES + 1)
 
     def test_without_the_scheduler_it_says_so(self):
         program = "import sys; sys.modules['distributed'] = None; sys.path.insert(0, sys.argv[1]); import crawl; sys.exit(crawl.main(['p', 't']))"

@@ -3,10 +3,10 @@ import ctypes
 import os
 import unittest
 
-from tlhtml import Document, Policy, edit, sanitize
+from tlhtml import Document, Policy, Selector, edit, sanitize
 from tlhtml._calls import lib
 
-PAGE = "<ul><LI class=a @click=f() href='?a=1&b'>x &amp; y<LI>3 < 4</UL><p>z"
+PAGE = "<ul><LI class=a @click=f() href='?a=1&b'>x &amp; y<LI>3 < 4</UL><p>z<table><td>y"
 
 
 @unittest.skipUnless("TL_REFUSALS" in os.environ, "the heap refuses nothing")
@@ -39,7 +39,10 @@ class Refusals(unittest.TestCase):
             lambda: (document.select_one("ul > li"), item.select("ul > li"), item.select_one("ul > li"), item.closest("ul > li")),
             lambda: item.matches("ul > li"),
             lambda: (item.text, item.outer_html, item.inner_html, document.html),
-            lambda: item.attributes,
+            lambda: Document(PAGE).select_one("li").attributes,
+            lambda: ([it.name for it in Document(PAGE).nodes], [it.kind for it in Document(PAGE).nodes]),
+            lambda: (document.readable_text, document.prettify(), [it[1:] for it in document.links("https://a.org/")], document.tables()),
+            lambda: Selector("li > b"),
         ):
             self.assertTrue(self.check(call))
         for call in (

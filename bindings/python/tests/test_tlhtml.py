@@ -1,13 +1,17 @@
 """Each call once and more, with what comes of pages that people write. `python3 -m pytest` runs them, and so does `-m unittest`."""
 import doctest
+import io
 import os
+import pathlib
+import re
+import tempfile
 import threading
 import time
 import unittest
 
 import tlhtml
-from tlhtml import ChangeError, Document, Error, OutOfProportion, Policy, PolicyError, SelectorError, TooLong
-from tlhtml import edit, sanitize, set_attribute, unset_attribute
+from tlhtml import ChangeError, Document, Error, OutOfProportion, Policy, PolicyError, Selector, SelectorError, TooLong
+from tlhtml import css_escape, edit, sanitize, set_attribute, unset_attribute
 
 PAGE = "<UL><LI hidden class=a @click=f() href='?a=1&b=2&lt;'>x &amp; y<LI>3 < 4</UL><!-- c --><p>z"
 
@@ -28,7 +32,10 @@ class Selectors(unittest.TestCase):
         with self.assertRaises(SelectorError) as it:
             self.document.select("é li:hover")
         self.assertEqual((it.exception.selector, it.exception.place, it.exception.cause), ("é li:hover", 5, 9))
-        self.assertEqual(str(it.exception), "no selector: 'é li:hover': at 5: no such pseudo-class")
+        self.assertEqual(str(it.exception), "no selector: 'é li:hover': at 5: no such pseudo-class: `hover` (a page has no states)")
+        self.assertRegex(str(SelectorError("a[x!=y]", 3, 4)), r"or `\]` is missing: `!` \(write `:not\(\[key=value\]\)`\)$")
+        self.assertEqual(str(SelectorError("a ]", 2, 15)), "no selector: 'a ]': at 2: this can't stand here: `]`")
+        self.assertEqual(str(SelectorError("", 0, 2)), "no selector: '': at 0: a selector is missing")
         with self.assertRaises(SelectorError) as it:
             self.document.select("> li")
         self.assertEqual((it.exception.place, it.exception.cause), (0, 2))
@@ -81,9 +88,12 @@ class Nodes(unittest.TestCase):
         self.assertEqual(len(list(items.descendants)), 4)
         self.assertEqual({item, document.select_one("li")}, {item})
         self.assertNotEqual(item, Document(PAGE).select_one("li"))
-        self.assertEqual(repr(item), "<tlhtml.Node 4: element li>")
+        self.assertEqual(repr(item), '<Node 4: <li hidden class="a" @click="f()" href="?a=1&b=2<">>')
         text = next(item.children)
-        self.assertEqual((text.kind, text.name, text.text, repr(text)), ("text", None, "x & y", "<tlhtml.Node 5: text>"))
+        self.assertEqual((text.kind, text.name, text.text, repr(text)), ("text", None, "x & y", "<Node 5: text 'x & y'>"))
+        self.assertEqual((repr(comment), repr(last)), ("<Node 8: comment ' c '>", "<Node 9: <p>>"))
+        self.assertEqual(repr(Document(f"<p a={'x' * 99}>").select_one("p")), f'<Node 3: <p a="{"x" * 53}...>>')
+        self.assertEqual((repr(Document("<title> a\n")), repr(document)), ("<Document of 5 nodes: 'a'>", "<Document of 11 nodes>"))
         self.assertEqual((text.outer_html, text.inner_html, text.first_child, list(text.descendants)), ("x &amp; y", "", None, []))
 
     def test_attributes(self):
@@ -193,20 +203,201 @@ class Trees(unittest.TestCase):
         self.assertTrue(issubclass(OutOfProportion, (Error, ValueError)) and issubclass(TooLong, (Error, ValueError)))
 
 
+PAGES = (
+    PAGE,
+    "",
+    "<!doctype html><!-- a --><title>b</title><p>x<b>y</b></p><!-- c -->",
+    "<table><tr><td>1<td>2<tr><td>3</table><svg viewbox='0 0 1 1'><use XLINK:HREF=#a href=#b></use></svg><math><mi>x",
+    "<template id=t><p class=a>x</p>y<template>z</template>u</template><p>v<template>w</template>t",
+    "<div a=b b='' c>" * 50 + "x" + "</div><i>y</i>" * 50 + "é &#0; \0 <p title='href' href='a\0b'>",
+)
+
+
+class AllAtOnce(unittest.TestCase):
+    """After a few questions of nodes all nodes are read at once: the answers are those of single calls."""
+
+    def test_as_single_calls(self):
+        for page in PAGES:
+            document, count = Document(page), len(Document(page).nodes)
+            for number in range(count):
+                single = Document(page).nodes[number]
+                node = document.nodes[number]
+                keys = list(single.attrs)
+                said = [
+                    (it.name, it.attrs, it.text, [it.get(key) for key in keys], it.get("href"), it.kind, it.namespace) for it in (single, node)
+                ]
+                self.assertEqual(said[0], said[1])
+                self.assertEqual(node.text, document._text(tlhtml._calls.lib.tl_node_text, number))
+                for call, other in (("parent", "parent"), ("first_child", "first_child"), ("next_sibling",) * 2, ("previous_sibling",) * 2):
+                    found = getattr(node, call)
+                    wanted = document._number(getattr(tlhtml._calls.lib, f"tl_node_{other}"), number)
+                    self.assertEqual(tlhtml._calls.NO_NODE if found is None else found.number, wanted)
+                self.assertEqual(list(node.children), [it for it in document.nodes if it.parent == node])
+                self.assertEqual(list(node.descendants), [it for it in document.nodes if node in it.parents])
+                self.assertEqual("".join(node.strings), "" if node.kind == "doctype" else node.text)
+
+
+class Texts(unittest.TestCase):
+    def test_their_forms(self):
+        document = Document("<title>t</title><p> one <b>two</b>\n<i> </i><!-- c --><template>x</template>three<script>f()</script>")
+        p = document.select_one("p")
+        self.assertEqual((p.get_text(), p.text), (" one two\n three" + "f()",) * 2)
+        self.assertEqual((p.get_text("|"), p.get_text("|", strip=True)), (" one |two|\n| |three|f()", "one|two|three|f()"))
+        self.assertEqual(list(p.strings), [" one ", "two", "\n", " ", "three", "f()"])
+        self.assertEqual((p.readable_text, document.readable_text), ("one two three",) * 2)
+        self.assertEqual((document.get_text(" ", strip=True), next(document.strings)), ("t one two three f()", "t"))
+        comment = next(it for it in document.nodes if it.kind == "comment")
+        self.assertEqual((comment.text, list(comment.strings), comment.readable_text), (" c ", [" c "], ""))
+
+    def test_looking_for_texts(self):
+        document = Document("<p>3 EUR<p>x<template>EUR</template><!-- EUR --><p>EUR 5<p>7")
+        self.assertEqual([it.text for it in document.find_text("EUR")], ["3 EUR", "EUR 5"])
+        self.assertEqual([it.text for it in document.find_text(re.compile(r"^\d"))], ["3 EUR", "7"])
+        first = document.select_one("p")
+        self.assertEqual((first.find_text("5"), first.find_text("3")[0].parent), ([], first))
+
+    def test_prints(self):
+        document = Document("<ul><li>a<li>b</ul><p>x")
+        self.assertEqual(document.prettify().splitlines()[3:6], ["    <ul>", "      <li>a</li>", "      <li>b</li>"])
+        item = document.select_one("li")
+        self.assertEqual((item.html, item.outer_html, item.tag), ("<li>a</li>", "<li>a</li>", "li"))
+
+    def test_objects(self):
+        document = Document("<!doctype html><p a=b>x<!-- c --><svg><g></svg><template>y</template><table><td>z")
+        said = document.select_one("p").to_dict()
+        self.assertEqual({key: said[key] for key in ("attributes", "name", "node", "start", "end")}, {"attributes": {"a": "b"}, "name": "p", "node": 4, "start": 15, "end": 22})
+        text, comment, svg, template = said["children"]
+        self.assertEqual(text, {"attributes": {}, "name": None, "node": 5, "start": 22, "end": 23, "text": "x"})
+        self.assertEqual((comment["comment"], svg["namespace"], svg["children"][0]["namespace"]), (" c ", "svg", "svg"))
+        self.assertEqual(template["children"][0]["contents"][0]["text"], "y")
+        self.assertNotIn("start", document.select_one("tbody").to_dict())
+        self.assertEqual(document.nodes[0].to_dict()["doctype"], "html")
+        self.assertEqual(document.to_dict()["name"], "html")
+        at, depth = Document("<b>" * 3000).to_dict(), 0
+        while at["children"]:
+            at, depth = at["children"][-1], depth + 1
+        self.assertEqual(depth, 3001)
+
+
+class Places(unittest.TestCase):
+    def test_lines(self):
+        document = Document("<ul>\n  é<li\n id=x>a\n\n<!-- c --><table><td>y")
+        for selector, wanted in (("ul", (1, 0)), ("li", (2, 3)), ("tbody", (None, None)), ("td", (5, 17))):
+            node = document.select_one(selector)
+            self.assertEqual((node.sourceline, node.sourcepos), wanted)
+        comment = next(it for it in document.nodes if it.kind == "comment")
+        self.assertEqual((comment.sourceline, comment.sourcepos), (5, 0))
+
+
+class Links(unittest.TestCase):
+    page = "<a href=' x?a=1&amp;b '>y</a><img srcset='/s.png 1x, //b.org/l.png 2x'><a href='http://['>z</a><template><a href=t>u</a></template>"
+
+    def test_as_they_stand(self):
+        links = Document(self.page).links()
+        self.assertEqual([(it.node.name, it.key, it.url, it.target) for it in links], [
+            ("a", "href", "x?a=1&b", None), ("img", "srcset", "/s.png", None), ("img", "srcset", "//b.org/l.png", None), ("a", "href", "http://[", None)
+        ])
+        self.assertEqual(Document("<svg><use xlink:href=#a></svg>").links()[0][1:], ("xlink:href", "#a", None))
+        self.assertEqual(Document("<p>").links(), [])
+
+    def test_where_they_lead(self):
+        def targets(page, base):
+            return [it.target for it in Document(page).links(base)]
+
+        self.assertEqual(targets(self.page, "https://a.org/d/e"), ["https://a.org/d/x?a=1&b", "https://a.org/s.png", "https://b.org/l.png", None])
+        page = "<base href='{}'><a href=é>"
+        self.assertEqual(targets(page.format("/f/"), "https://a.org/d/e")[1], "https://a.org/f/%C3%A9")
+        self.assertEqual(targets(page.format("https://c.org"), "https://a.org")[1], "https://c.org/%C3%A9")
+        for refused in ("data:text/html,x", "javascript:x", "http://["):
+            self.assertEqual(targets(page.format(refused), "https://a.org/d/")[1], "https://a.org/d/%C3%A9")
+        for base in ("", "x", "//a.org"):
+            with self.assertRaisesRegex(ValueError, "the base is no URL"):
+                targets(self.page, base)
+
+
+class Tables(unittest.TestCase):
+    def test_rows(self):
+        page = "<table><tr><th rowspan=2>Name<th colspan=2>Price, EUR<tr><th>\"a\"<th>b<tfoot><tr><td>f<tbody><tr><td>x<br>y<td>1</table><table><tr></table>"
+        document = Document(page)
+        rows = [["Name", "Price, EUR", "Price, EUR"], ["Name", '"a"', "b"], ["x y", "1", ""], ["f", "", ""]]
+        self.assertEqual(document.tables(), [rows, [[""]]])
+        self.assertEqual(document.select_one("table").rows(), rows)
+        self.assertEqual((Document("<p>").tables(), Document("<table></table>").tables()), ([], [[]]))
+        with self.assertRaisesRegex(ValueError, "no table: <Node 1: <head>>"):
+            document.nodes[1].rows()
+
+    def test_one_out_of_proportion(self):
+        page = "<table>" + "<tr><td colspan=1000 rowspan=0>" + "x" * 100 + "<tr>" * 1000
+        with self.assertRaisesRegex(OutOfProportion, "^the table is out of proportion to its page$"):
+            Document(page).tables()
+
+
+class Sources(unittest.TestCase):
+    def test_what_a_page_may_be(self):
+        page = "<p>é".encode()
+        with tempfile.TemporaryDirectory() as folder:
+            path = pathlib.Path(folder, "page.html")
+            path.write_bytes(page)
+            with open(path, "rb") as file, open(path, encoding="utf-8") as text:
+                for given in (page.decode(), page, bytearray(page), memoryview(page), path, file, text, io.BytesIO(page)):
+                    self.assertEqual(Document(given).text, "é")
+            with self.assertRaises(FileNotFoundError):
+                Document(pathlib.Path(folder, "none"))
+
+
+class OwnSelectors(unittest.TestCase):
+    def test_selectors_that_are_read_once(self):
+        items = Selector("ul > li")
+        document = Document(PAGE)
+        self.assertEqual(document.select(items), document.select("ul > li"))
+        self.assertEqual(document.select_one(items), document.select_one("li"))
+        item, body = document.select_one(items), document.select_one("body")
+        self.assertEqual((body.select(items), body.select_one(items), item.matches(items), item.closest(items)), (document.select("li"), item, True, item))
+        self.assertEqual((str(items), repr(items), items == Selector("ul > li"), items == "ul > li"), ("ul > li", "Selector('ul > li')", True, False))
+        self.assertEqual(len({items, Selector("ul > li"), Selector("p")}), 2)
+        self.assertEqual(edit("<p>x</p>", Selector("p"), "remove"), "")
+        self.assertEqual(len(body.select(Selector("> *"))), 2)
+        with self.assertRaises(SelectorError) as it:
+            Selector("é ]")
+        self.assertEqual((it.exception.selector, it.exception.place, it.exception.cause), ("é ]", 2, 15))
+        with self.assertRaises(SelectorError):
+            document.select(Selector("> li"))
+        with self.assertRaises(SelectorError):
+            edit("<p>", Selector("> p"), "remove")
+
+    def test_escapes(self):
+        for name, wanted in (
+            ("abc-_1", "abc-_1"), ("1a", "\\31 a"), ("-1", "-\\31 "), ("-", "\\-"), ("--", "--"), ("a b", "a\\ b"), ("é\x80", "é\x80"),
+            ("\0", "\ufffd"), ("\x1f\x7f", "\\1f \\7f "), ("a.b:c", "a\\.b\\:c"), ("", ""), ("٣", "٣"),
+        ):
+            self.assertEqual(css_escape(name), wanted)
+        for name in ("1", "-", "a b", "#", "é\n", "\\", "]", "٣", "-9", '"'):
+            document = Document(f'<p id="{name.replace(chr(34), "&quot;")}">')
+            self.assertEqual(len(document.select(f"#{css_escape(name)}")), 1, name)
+
+
 class Wrong(unittest.TestCase):
     def test_types(self):
         """What is no text is a TypeError that says what was wanted."""
         document = Document(PAGE)
         item = document.select_one("li")
         for wanted, ask in (
-            ("a page is a str or bytes, not int", lambda: Document(1)),
-            ("a page is a str or bytes, not NoneType", lambda: Document(None)),
-            ("a selector is a str, not bytes", lambda: document.select(b"p")),
-            ("a selector is a str, not NoneType", lambda: document.select_one(None)),
-            ("a selector is a str, not int", lambda: item.select(1)),
-            ("a selector is a str, not int", lambda: item.select_one(1)),
-            ("a selector is a str, not int", lambda: item.closest(1)),
-            ("a selector is a str, not int", lambda: item.matches(1)),
+            ("a page is a str, bytes, a path or a file, not int", lambda: Document(1)),
+            ("a page is a str, bytes, a path or a file, not NoneType", lambda: Document(None)),
+            ("a selector is a str or a Selector, not bytes", lambda: document.select(b"p")),
+            ("a selector is a str or a Selector, not NoneType", lambda: document.select_one(None)),
+            ("a selector is a str or a Selector, not int", lambda: item.select(1)),
+            ("a selector is a str or a Selector, not int", lambda: item.select_one(1)),
+            ("a selector is a str or a Selector, not int", lambda: item.closest(1)),
+            ("a selector is a str or a Selector, not int", lambda: item.matches(1)),
+            ("a selector is a str, not int", lambda: Selector(1)),
+            ("a name is a str, not int", lambda: css_escape(1)),
+            ("a separator is a str, not int", lambda: item.get_text(1)),
+            ("what is looked for is a str or a pattern, not int", lambda: item.find_text(1)),
+            ("a base is a str, not int", lambda: document.links(1)),
+            ("what a file reads is a str or bytes, not NoneType", lambda: Document(type("File", (), {"read": lambda self: None})())),
+            ("a page that is a str has no encoding", lambda: Document("<p>", "latin1")),
+            ("an encoding is a str, not int", lambda: Document(b"<p>", 1)),
             ("a key is a str, not int", lambda: item[0]),
             ("a key is a str, not bytes", lambda: item.get(b"href")),
             ("a key is a str, not int", lambda: 0 in item),
@@ -216,7 +407,7 @@ class Wrong(unittest.TestCase):
             ("a word of a list is a str, not int", lambda: Policy.BLOG.lists(tags=[1])),
             ("a prefix is a str, not int", lambda: Policy.BLOG.lists(id_prefix=1)),
             ("a page is a str, not bytes", lambda: edit(b"<p>", "p", "remove")),
-            ("a selector is a str, not int", lambda: edit("<p>", 1, "remove")),
+            ("a selector is a str or a Selector, not int", lambda: edit("<p>", 1, "remove")),
             ("what is put is a str, not int", lambda: edit("<p>", "p", "fill", text=1)),
             ("a key is a str, not int", lambda: set_attribute("<p>", "p", 1, "x")),
             ("a value is a str, not int", lambda: set_attribute("<p>", "p", "a", 1)),
@@ -235,8 +426,10 @@ class Wrong(unittest.TestCase):
 
 class Examples(unittest.TestCase):
     def test_those_of_the_documents(self):
-        for module in (tlhtml, tlhtml._document):
-            self.assertEqual(doctest.testmod(module).failed, 0)
+        modules = (tlhtml, tlhtml._document, tlhtml._changes, tlhtml._policy, tlhtml._selectors)
+        tried = [doctest.testmod(it) for it in modules]
+        self.assertEqual([it.failed for it in tried], [0] * len(modules))
+        self.assertGreater(sum(it.attempted for it in tried), 30)
 
 
 class Closing(unittest.TestCase):
@@ -252,6 +445,11 @@ class Closing(unittest.TestCase):
             lambda: document.children,
             lambda: document.is_quirks,
             lambda: item.text,
+            lambda: item.strings,
+            lambda: item.name,
+            lambda: item.readable_text,
+            lambda: document.links(),
+            lambda: document.prettify(),
             lambda: item.attributes,
             lambda: item.get("href"),
             lambda: item.kind,
@@ -261,13 +459,23 @@ class Closing(unittest.TestCase):
         ):
             with self.assertRaisesRegex(ValueError, "closed"):
                 ask()
+        self.assertEqual((repr(document), repr(item)), ("<Document, closed>", "<Node 4 of a closed document>"))
 
     def test_pages_that_are_no_text(self):
-        with self.assertRaises(UnicodeDecodeError):
-            Document(b"caf\xe9")
         with self.assertRaises(UnicodeEncodeError):
             Document("\ud800")
         self.assertEqual(Document("é".encode()).text, "é")
+
+    def test_encodings(self):
+        self.assertEqual(Document(b"caf\xe9").text, "caf\ufffd")
+        self.assertEqual(Document(b"caf\xe9", "latin1").text, "café")
+        self.assertEqual(Document(b"<meta charset=koi8-r>\xc9").text, "и")
+        self.assertEqual(Document(b"<meta charset=koi8-r>\xc9", encoding="latin1").text, "É")
+        self.assertEqual(Document(b"\xfe\xff\x00\xe9", "latin1").text, "é")
+        self.assertEqual(Document(b"\x83e\x83X\x83g" * 999, "sjis").text, "テスト" * 999)
+        for label in ("", "nope"):
+            with self.assertRaisesRegex(LookupError, "unknown encoding"):
+                Document(b"", label)
 
 
 class SafePages(unittest.TestCase):

@@ -7,21 +7,28 @@
 '<p>I &lt;3 it</p>'
 """
 from ._calls import version
-from ._document import Document, Lists, Node, Policy, edit, sanitize, set_attribute, unset_attribute
+from ._changes import edit, set_attribute, unset_attribute
+from ._document import Document, Link, Node, join_url
 from ._errors import ChangeError, Error, OutOfProportion, PolicyError, SelectorError, TooLong
+from ._policy import Lists, Policy, sanitize
+from ._selectors import Selector, css_escape
 
 __all__ = [
     "ChangeError",
     "Document",
     "Error",
+    "Link",
     "Lists",
     "Node",
     "OutOfProportion",
     "Policy",
     "PolicyError",
+    "Selector",
     "SelectorError",
     "TooLong",
+    "css_escape",
     "edit",
+    "join_url",
     "sanitize",
     "set_attribute",
     "unset_attribute",

@@ -61,12 +61,19 @@ for _name, _kind, _words in (
     ("tl_refused_word", ctypes.c_uint8, [ctypes.POINTER(Lists)] + _OUT + [ctypes.POINTER(ctypes.c_uint8)]),
     ("tl_edit_css", ctypes.c_uint8, [ctypes.c_uint8] * 2 + _LENT * 3 + _OUT + _PLACE),
     ("tl_patch_css", ctypes.c_uint8, [ctypes.c_uint8] + _LENT * 4 + _OUT + _PLACE),
+    ("tl_encoding_of", ctypes.c_uint8, _LENT * 2 + _OUT),
+    ("tl_decode_page", ctypes.c_uint8, _LENT * 2 + _OUT),
     ("tl_version", ctypes.c_uint8, _OUT),
     ("tl_parse_html", ctypes.c_uint8, _LENT + [_OF]),
     ("tl_free", None, [_OF]),
     ("tl_node_count", ctypes.c_uint32, [_OF]),
     ("tl_is_quirks", ctypes.c_uint8, [_OF]),
     ("tl_document_html", ctypes.c_uint8, [_OF] + _OUT),
+    ("tl_document_pretty_html", ctypes.c_uint8, [_OF] + _OUT),
+    ("tl_nodes", ctypes.c_uint8, [_OF] + _OUT),
+    ("tl_parts", ctypes.c_uint8, [_OF] + _OUT),
+    ("tl_document_links", ctypes.c_uint8, [_OF] + _OUT),
+    ("tl_join_url", ctypes.c_uint8, _LENT * 2 + _OUT),
     ("tl_select_css", ctypes.c_uint8, [_OF] + _LENT + _OUT + _PLACE),
     ("tl_first_css", ctypes.c_uint8, [_OF] + _LENT + _ONE + _PLACE),
     ("tl_node_select_css", ctypes.c_uint8, _NODE + _LENT + _OUT + _PLACE),
@@ -87,6 +94,8 @@ for _name, _kind, _words in (
     ("tl_node_inner_html", ctypes.c_uint8, _NODE + _OUT),
     ("tl_attribute", ctypes.c_uint8, _NODE + _LENT + _OUT),
     ("tl_node_text", ctypes.c_uint8, _NODE + _OUT),
+    ("tl_node_readable_text", ctypes.c_uint8, _NODE + _OUT),
+    ("tl_table_csv", ctypes.c_uint8, _NODE + [ctypes.c_size_t] + _OUT),
 ):
     getattr(lib, _name).restype, getattr(lib, _name).argtypes = _kind, _words
 
@@ -108,6 +117,7 @@ def page_error_of(status: int, page: bytes) -> Exception:
 
 
 _LENGTHS = struct.Struct("<QQ")
+_LINK = struct.Struct("<QQQ")
 
 
 class Room:
@@ -134,9 +144,17 @@ class Room:
                 return status
             self._make(self._count.value)
 
+    def view(self) -> memoryview:
+        """What it was filled with, which stays for as long as nothing else is put there."""
+        return memoryview(self._items).cast("B")[: self._count.value * self._view.itemsize]
+
     def text(self) -> str:
         """The text that it was filled with."""
         return str(self._view[: self._count.value], "utf-8")
+
+    def raw(self) -> bytes:
+        """The bytes that it was filled with."""
+        return self._view[: self._count.value].tobytes()
 
     def numbers(self) -> list[int]:
         """The numbers that it was filled with."""
@@ -145,7 +163,7 @@ class Room:
 
     def attributes(self) -> dict[str, str]:
         """The keys and values that it was filled with, in order."""
-        said, at = bytes(self._view[: self._count.value]), 0
+        said, at = self.raw(), 0
         pairs: dict[str, str] = {}
         while at < len(said):
             key_len, value_len = _LENGTHS.unpack_from(said, at)
@@ -154,6 +172,18 @@ class Room:
             at = value + value_len
             pairs[said[key:value].decode()] = said[value:at].decode()
         return pairs
+
+    def links(self) -> list[tuple[int, str, str]]:
+        """The links that it was filled with, in order: the number of the element, the key and the URL."""
+        said, at = self.raw(), 0
+        found = []
+        while at < len(said):
+            number, key_len, url_len = _LINK.unpack_from(said, at)
+            key = at + _LINK.size
+            url = key + key_len
+            at = url + url_len
+            found.append((number, said[key:url].decode(), said[url:at].decode()))
+        return found
 
 
 def room_of(page: bytes) -> Room:
@@ -168,13 +198,23 @@ def utf8(text: object, what: str) -> bytes:
     return text.encode()
 
 
-def page_bytes(page: str | bytes) -> bytes:
-    """A page that is meant to be UTF-8. Whether its bytes are, the library looks at."""
-    if isinstance(page, bytes):
-        return page
-    if isinstance(page, str):
-        return page.encode()
-    raise TypeError(f"a page is a str or bytes, not {type(page).__name__}")
+def characters(text: bytes, place: int) -> int:
+    """How many characters stand before a byte."""
+    return len(text[:place].decode(errors="ignore"))
+
+
+def decoded(page: bytes, encoding: str | None) -> bytes:
+    """A page in UTF-8. What bytes are in says their byte-order mark, else this label of the Encoding standard, else the page."""
+    label = utf8(encoding, "an encoding") if encoding is not None else b""
+    if encoding is not None and not label:
+        raise LookupError(f"unknown encoding: {encoding!r}")
+    room = Room(ctypes.c_char, len(page) + len(page) // 8 + 64)
+    status = room.fill(lib.tl_decode_page, label, len(label), page, len(page))
+    if status == REFUSED:
+        raise LookupError(f"unknown encoding: {encoding!r}")
+    if status != DONE:
+        raise error_of(status)
+    return room.text().encode()
 
 
 def version() -> str:

@@ -1,190 +1,44 @@
-"""Documents, nodes, and safe pages."""
+"""Documents and their nodes."""
 from __future__ import annotations
 
+import bisect
+import csv
 import ctypes
-import enum
+import io
+import re
 import threading
 from types import TracebackType
-from typing import Any, Callable, Iterable, Iterator, Sequence, TypeVar
+from typing import Any, Callable, Iterator, NamedTuple, Pattern, TypeVar
 
-from . import _calls
-from ._calls import DONE, NO_NODE, NO_ROOM, REFUSED, Handle, Room, error_of, lib, page_error_of, room_of, utf8
-from ._errors import ChangeError, PolicyError, SelectorError
+from ._calls import DONE, NO_NODE, NOT_UNDERSTOOD, REFUSED, Handle, Room, characters, error_of, lib, page_error_of, utf8
+from ._errors import OutOfProportion, SelectorError
+from ._rows import COMMENT, CONTENTS, DOCTYPE, ELEMENT, TEXT, Parts, Rows
+from ._selectors import Selector, selector_bytes
+from ._sources import Page, page_bytes
 
 KINDS = ("none", "element", "text", "comment", "doctype", "contents")
 NAMESPACES = (None, "html", "svg", "mathml")
 T = TypeVar("T")
 
-
-class Policy(enum.IntEnum):
-    """What is kept of a page."""
-
-    BLOG = 0
-    """For the text of a blog: no parts of tables, no forms, links to the web, to mail and within the site."""
-    COMMENTS = 1
-    """For comments of readers: emphasis, quotes, lists and code, and links to the web; no headings, pictures and names."""
-    DOCUMENTS = 2
-    """For documents: tables and the parts of a document too, and pictures and links beside the page."""
+# How many questions of single nodes are answered by calls of their own before all nodes are asked for at once.
+_FEW = 8
+# Of a node with more below it the texts are written by one call.
+_MANY = 64
+# White space of HTML, between the words of a class.
+_BLANKS = " \t\n\f\r"
 
 
-    def lists(
-        self,
-        *,
-        tags: Iterable[str] | None = None,
-        keys: Iterable[str] | None = None,
-        link_keys: Iterable[str] | None = None,
-        link_prefixes: Iterable[str] | None = None,
-        classes: Iterable[str] | None = None,
-        id_prefix: str | None = None,
-        relative_links: bool = False,
-        nofollow_links: bool = False,
-    ) -> Lists:
-        """This policy with lists of one's own in the place of those that it has: the tags and keys that may stand, the keys that hold
-        links, what links begin with, the patterns of classes that may stand, and what stands in front of `id` and `name` and of links to
-        them; whether links beside the page may stand too, and whether each is marked with `rel="nofollow noopener"`. A PolicyError says
-        which word no policy may list.
+class Link(NamedTuple):
+    """A URL that an attribute holds."""
 
-        >>> sanitize("<p>x<b>y", Policy.COMMENTS.lists(tags=["b"]))
-        'x<b>y</b>'
-
-        A list whose first word begins with `+` or `-` changes the policy's own.
-
-        >>> sanitize("<p>x<b>y", Policy.COMMENTS.lists(tags=["-b", "+img"]))
-        '<p>xy</p>'
-
-        A `*` at the end of a pattern stands for any characters.
-
-        >>> sanitize("<code class='hljs x'>y", Policy.BLOG.lists(classes=["language-*", "hljs"]))
-        '<code class="hljs">y</code>'
-        """
-        words = (tags, keys, link_keys, link_prefixes, classes)
-        prefix = None if id_prefix is None else utf8(id_prefix, "a prefix")
-        return Lists(self, [None if it is None else _with_commas(it) for it in words] + [prefix], relative_links, nofollow_links)
-
-
-def _with_commas(words: Iterable[str]) -> bytes:
-    """Words as one text."""
-    if not isinstance(words, Iterable):
-        raise TypeError(f"a list is a str or some of them, not {type(words).__name__}")
-    listed = [utf8(word, "a word of a list") for word in ([words] if isinstance(words, str) else words)]
-    for word in listed:
-        if b"," in word:
-            raise ValueError(f"a word of a list has no comma: {word.decode()!r}")
-    return b",".join(listed)
-
-
-class Lists:
-    """A policy with lists of one's own, which `Policy.lists` makes."""
-
-    def __init__(self, policy: Policy, texts: Sequence[bytes | None], relative_links: bool, nofollow_links: bool) -> None:
-        # (the structure keeps the texts)
-        lent = [_calls.List(it or b"", len(it or b""), it is not None) for it in texts]
-        self._lent = _calls.Lists(*lent, relative_links, nofollow_links, policy)
-        refused, cause = self._refused_word()
-        if refused is not None:
-            raise PolicyError(refused, cause)
-
-    @property
-    def options(self) -> str:
-        """The options of `tl sanitize` that say these lists, one on each line, so that they can be shown; also those of a policy that is
-        there.
-
-        >>> Policy.COMMENTS.lists(tags=["a", "b"]).options.splitlines()[0]
-        '--tags a,b'
-        """
-        room = Room(ctypes.c_char, 1024)
-        status = room.fill(lib.tl_list_options, self._lent)
-        if status != DONE:
-            raise error_of(status)
-        return room.text()
-
-    def _refused_word(self) -> tuple[str | None, int]:
-        """The first word for which they are no policy, if there is one, and the number of why."""
-        room, cause = Room(ctypes.c_char, 64), ctypes.c_uint8()
-        status = room.fill(lib.tl_refused_word, self._lent, behind=(cause,))
-        if status not in (DONE, REFUSED):
-            raise error_of(status)
-        return (room.text() if status == DONE else None), cause.value
-
-    def _sanitize(self, page: bytes) -> tuple[int, Room]:
-        room = room_of(page)
-        return room.fill(lib.tl_sanitize_html_with, self._lent, page, len(page), behind=(ctypes.c_uint8(),)), room
-
-
-def sanitize(html: str, policy: Policy | Lists = Policy.BLOG) -> str:
-    """What a policy keeps of a page, so that a browser builds just that: no scripts, no handlers of events, no styles, and links where
-    the policy lets them lead. What people type is read as browsers read it, so `I <3 you` stays a text. The answer is to stand in an
-    ordinary element of a page that is served as UTF-8."""
-    page = utf8(html, "a page")
-    if isinstance(policy, Lists):
-        status, room = policy._sanitize(page)
-    elif isinstance(policy, int):
-        room = room_of(page)
-        status = room.fill(lib.tl_sanitize_html_by, Policy(policy), page, len(page))
-    else:
-        raise TypeError(f"a policy is a Policy or its lists, not {type(policy).__name__}")
-    if status != DONE:
-        raise page_error_of(status, page)
-    return room.text()
-
-
-def set_attribute(html: str, selector: str, key: str, value: str) -> str:
-    """The page with a key set in the start tag of each element where a selector holds. No other byte is changed: not the doctype, quotes,
-    blanks, nor what browsers mend. Where the selector holds nowhere it is the page."""
-    return _patched(0, html, selector, key, value)
-
-
-def unset_attribute(html: str, selector: str, key: str) -> str:
-    """The page with a key unset there."""
-    return _patched(1, html, selector, key, "")
-
-
-def _patched(edit: int, html: str, selector: str, key: str, value: str) -> str:
-    # (keys are in lower case)
-    return _changed(lib.tl_patch_css, [edit], html, selector, utf8(key, "a key").lower(), utf8(value, "a value"))
-
-
-_EDITS = ("rename", "remove", "unwrap", "replace", "fill", "prepend", "append", "before", "after")
-
-
-def edit(html: str, selector: str, what: str, *, name: str | None = None, text: str | None = None, markup: str | None = None) -> str:
-    """The page with each element changed where a selector holds. `what` is "rename" with a name, "remove", "unwrap", or one of "replace",
-    "fill", "prepend", "append", "before" and "after" with a text, which is escaped, or with markup. No other byte is changed, and what
-    is read of the answer is the page with just that changed. Where the selector holds nowhere it is the page.
-
-    >>> edit("<!DOCTYPE html PUBLIC 'x'><P>one <B>two</B>", "b", "fill", text="3 < 4")
-    "<!DOCTYPE html PUBLIC 'x'><P>one <B>3 &lt; 4</B>"
-    """
-    if what not in _EDITS:
-        raise ValueError(f"no edit: {what!r} is none of {', '.join(_EDITS)}")
-    wanted = {"rename": (name,), "remove": (), "unwrap": ()}.get(what, (text, markup))
-    given = [it for it in (name, text, markup) if it is not None]
-    if len(given) != bool(wanted) or any(it not in wanted for it in given):
-        raise ValueError(f"{what!r} takes {'a name' if what == 'rename' else 'a text or markup' if wanted else 'nothing else'}")
-    numbers = [_EDITS.index(what), int(markup is not None)]
-    content = utf8(given[0], "what is put") if given else b""
-    # (names are in lower case)
-    return _changed(lib.tl_edit_css, numbers, html, selector, content.lower() if what == "rename" else content)
-
-
-def _changed(call: Callable[..., int], numbers: list[int], html: str, selector: str, *texts: bytes) -> str:
-    """What a call makes of a page and where a selector holds."""
-    page, asked = utf8(html, "a page"), utf8(selector, "a selector")
-    words = [*numbers, *(word for it in (asked, *texts, page) for word in (it, len(it)))]
-    room, place, cause = room_of(page), ctypes.c_size_t(), ctypes.c_uint8()
-    status = room.fill(call, *words, behind=(place, cause))
-    if cause.value >= 16:
-        raise ChangeError(_characters(page, place.value), cause.value)
-    if cause.value:
-        raise SelectorError(selector, _characters(asked, place.value), cause.value)
-    if status != DONE:
-        raise page_error_of(status, page)
-    return room.text()
-
-
-def _characters(text: bytes, place: int) -> int:
-    """How many characters stand before a byte."""
-    return len(text[:place].decode(errors="ignore"))
+    node: Node
+    """The element."""
+    key: str
+    """The key of the attribute."""
+    url: str
+    """The URL as it stands there."""
+    target: str | None
+    """Where it leads from the base that was said; None where none was, or where it is no URL."""
 
 
 class Document:
@@ -194,12 +48,29 @@ class Document:
     >>> [it.text for it in document.select("table > tbody > tr > td")]
     ['1', '2']
 
+    A page is a str, which is markup; or bytes, a path (`pathlib.Path`) or a file.
+
+    >>> import io
+    >>> Document(io.BytesIO(b"<title>x")).select_one("title").text
+    'x'
+
     Threads may share one: it takes them one after the other. `with` gives its memory back at the end, and so does `close`; else that
     comes with the last name that it has."""
 
-    def __init__(self, page: str | bytes) -> None:
-        lent = _calls.page_bytes(page)
+    def __init__(self, page: Page, encoding: str | None = None) -> None:
+        """Reads a page. Of bytes their byte-order mark says what they are in, else `encoding`, which is a label of the Encoding standard
+        (`latin1`, `koi8-r`), else the page itself, as browsers tell it; U+FFFD stands for bytes that are wrong.
+
+        >>> Document(b"<meta charset=koi8-r><p>\\xcd\\xc9\\xd2").select_one("p").text
+        'мир'
+        """
+        lent = page_bytes(page, encoding)
         self._handle, self._lock = Handle(), threading.RLock()
+        self._page = lent
+        self._lines: list[int] | None = None
+        self._loaded: Rows | None = None
+        self._parts: Parts | None = None
+        self._asked = 0
         status = lib.tl_parse_html(lent, len(lent), self._handle)
         if status != DONE:
             raise page_error_of(status, lent)
@@ -208,6 +79,7 @@ class Document:
     def close(self) -> None:
         """Gives the memory back. What is asked after that is a ValueError."""
         with self._lock:
+            self._loaded = self._parts = None
             lib.tl_free(self._handle)
 
     def __del__(self) -> None:
@@ -219,6 +91,12 @@ class Document:
 
     def __exit__(self, kind: type[BaseException] | None, error: BaseException | None, trace: TracebackType | None) -> None:
         self.close()
+
+    def __repr__(self) -> str:
+        if not self._handle.at:
+            return "<Document, closed>"
+        title = self.select_one("title")
+        return f"<Document of {len(self._rows().kinds)} nodes{f': {_short(title.text.strip())}' if title else ''}>"
 
     def _opened(self) -> Handle:
         """What calls are lent. It is used while the lock is held."""
@@ -245,37 +123,69 @@ class Document:
         """The text that a call answers."""
         return self._answer(Room.text, call, *words) or ""
 
-    def _selected(self, call: Callable[..., int], selector: str, *front: int) -> list[Node]:
+    def _whole(self, call: Callable[..., int], room: Room) -> memoryview:
+        """What a call says of all nodes."""
+        with self._lock:
+            status = room.fill(call, self._opened())
+        if status != DONE:
+            raise error_of(status)
+        return room.view()
+
+    def _rows(self) -> Rows:
+        """What is known of all nodes."""
+        rows = self._loaded
+        if rows is None:
+            count = self._number(lib.tl_node_count)
+            rows = self._loaded = Rows(self._whole(lib.tl_nodes, Room(ctypes.c_uint32, 4 * count)))
+        return rows
+
+    def _all_parts(self) -> Parts:
+        """What stands in the nodes."""
+        parts = self._parts
+        if parts is None:
+            kinds = self._rows().kinds
+            room = Room(ctypes.c_char, len(self._page) + 2 * len(kinds) + 64)
+            parts = self._parts = Parts(self._whole(lib.tl_parts, room))
+        return parts
+
+    def _parts_if_many(self) -> Parts | None:
+        """The same once more than a few nodes were asked; before that None."""
+        self._asked += 1
+        return self._parts or (self._all_parts() if self._asked > _FEW else None)
+
+    def _selected(self, call: Callable[..., int], selector: str | Selector, *front: int) -> list[Node]:
         """The nodes that a call finds which says where and why a selector is none."""
-        lent, place, cause = utf8(selector, "a selector"), ctypes.c_size_t(), ctypes.c_uint8()
+        lent, place, cause = selector_bytes(selector), ctypes.c_size_t(), ctypes.c_uint8()
         found: list[int] = []
         with self._lock:
             status = self._numbers.fill(call, self._opened(), *front, lent, len(lent), behind=(place, cause))
             if status == DONE:
                 found = self._numbers.numbers()
-        _look_at(selector, status, place.value, cause.value)
+        _look_at(lent, status, place.value, cause.value)
         return [Node(self, number) for number in found]
 
-    def _said(self, call: Callable[..., int], selector: str, said: ctypes.c_uint32 | ctypes.c_uint8, *front: int) -> int | None:
+    def _said(
+        self, call: Callable[..., int], selector: str | Selector, said: ctypes.c_uint32 | ctypes.c_uint8, *front: int
+    ) -> int | None:
         """The one number that such a call says; None where it is refused without a cause."""
-        lent, place, cause = utf8(selector, "a selector"), ctypes.c_size_t(), ctypes.c_uint8()
+        lent, place, cause = selector_bytes(selector), ctypes.c_size_t(), ctypes.c_uint8()
         status = self._number(call, *front, lent, len(lent), said, place, cause)
         if status == REFUSED and not cause.value:
             return None
-        _look_at(selector, status, place.value, cause.value)
+        _look_at(lent, status, place.value, cause.value)
         return said.value
 
-    def _selected_one(self, call: Callable[..., int], selector: str, *front: int) -> Node | None:
+    def _selected_one(self, call: Callable[..., int], selector: str | Selector, *front: int) -> Node | None:
         """The node that such a call says."""
         number = self._said(call, selector, ctypes.c_uint32(), *front)
         return None if number is None else Node(self, number)
 
-    def select(self, selector: str) -> list[Node]:
+    def select(self, selector: str | Selector) -> list[Node]:
         """The elements where a selector of CSS holds, in the order of the page, without those in a `template`. `:scope` is the root."""
         return self._selected(lib.tl_select_css, selector)
 
-    def select_one(self, selector: str) -> Node | None:
-        """The first of them."""
+    def select_one(self, selector: str | Selector) -> Node | None:
+        """The first of them; None where there is none."""
         return self._selected_one(lib.tl_first_css, selector)
 
     @property
@@ -291,29 +201,144 @@ class Document:
     @property
     def children(self) -> Iterator[Node]:
         """The nodes at the top, in order: the `html`, with a doctype and comments before and behind it."""
-        return _row(Node(self, 0) if self._number(lib.tl_node_count) else None)
+        rows = self._rows()
+        return (Node(self, number) for number in rows.siblings(0, len(rows.kinds)))
+
+    @property
+    def root(self) -> Node:
+        """The element that stands in no other: the `html`."""
+        return next(it for it in self.children if it.kind == "element")
 
     @property
     def text(self) -> str:
         """The texts of the page, one after the other, without those in a `template`: also what `script` and `style` hold."""
-        return "".join(child.text for child in self.children if child.kind == "element")
+        return self.root.text
+
+    @property
+    def readable_text(self) -> str:
+        """The text of the page as a browser shows it without style sheets, as `tl text -w` has it: blocks on lines of their own, one space
+        between words, without scripts and styles.
+
+        >>> print(Document("<title>t</title><h1>A\\n &amp; B</h1><p>x<br>y<script>f()</script>").readable_text)
+        A & B
+        <BLANKLINE>
+        x
+        y
+        """
+        return self.root.readable_text
+
+    def get_text(self, separator: str = "", strip: bool = False) -> str:
+        """The texts of the page with a separator between them, as `Node.get_text`."""
+        return self.root.get_text(separator, strip)
+
+    @property
+    def strings(self) -> Iterator[str]:
+        """What each text of the page says, as `Node.strings`."""
+        return self.root.strings
+
+    def find_text(self, wanted: str | Pattern[str]) -> list[Node]:
+        """The texts of the page that hold a text, as `Node.find_text`."""
+        return self.root.find_text(wanted)
 
     @property
     def html(self) -> str:
         """The whole page as markup, as browsers serialize its tree."""
         return self._text(lib.tl_document_html)
 
+    def prettify(self) -> str:
+        """The same with a tag on each line where white space doesn't count, as `tl print --pretty`.
 
-def _look_at(selector: str, status: int, place: int, cause: int) -> None:
+        >>> print(Document("<ul><li>a<li>b").prettify(), end="")
+        <html>
+          <head></head>
+          <body>
+            <ul>
+              <li>a</li>
+              <li>b</li>
+            </ul>
+          </body>
+        </html>
+        """
+        return self._text(lib.tl_document_pretty_html)
+
+    def links(self, base: str | None = None) -> list[Link]:
+        """Each URL that an attribute of the page holds (`href`, `src`, `srcset` and all others that the HTML standard names), in the order of
+        the page, as `tl links` has them. With the URL of the page as the base `target` says where each leads, also by way of the page's own
+        `base`; a base that is no URL is a ValueError.
+
+        >>> links = Document("<a href='x?a=1&amp;b'>y</a><img src=/z.png>").links("https://example.org/d/")
+        >>> [(it.node.name, it.key, it.url, it.target) for it in links]
+        [('a', 'href', 'x?a=1&b', 'https://example.org/d/x?a=1&b'), ('img', 'src', '/z.png', 'https://example.org/z.png')]
+        """
+        found = self._answer(Room.links, lib.tl_document_links) or []
+        own = None if base is None else self._base(base)
+        return [Link(Node(self, number), key, url, own and join_url(own, url)) for number, key, url in found]
+
+    def _base(self, page: str) -> str:
+        """The base of the page's links, where the page has this URL."""
+        own = join_url(page, "")
+        if own is None:
+            raise ValueError(f"the base is no URL: {page!r}")
+        element = self.select_one("base[href]")
+        there = element and join_url(own, element["href"])
+        return own if not there or there.startswith(("data:", "javascript:")) else there
+
+    def tables(self) -> list[list[list[str]]]:
+        """The rows of each table of the page, those in cells too, as `Node.rows` has them.
+
+        >>> Document("<table><tr><th rowspan=2>a<td>1<tr><td>2</table>").tables()
+        [[['a', '1'], ['a', '2']]]
+        """
+        return [it.rows() for it in self.select("table")]
+
+    def to_dict(self) -> dict[str, Any]:
+        """The root as `Node.to_dict` has it."""
+        return self.root.to_dict()
+
+    def _line_of(self, place: int) -> tuple[int, int]:
+        """The line of a byte of the page from 1, and where that begins."""
+        if self._lines is None:
+            self._lines = [0, *(it.end() for it in re.finditer(b"\n", self._page))]
+        number = bisect.bisect_right(self._lines, place)
+        return number, self._lines[number - 1]
+
+
+def join_url(base: str, link: str) -> str | None:
+    """Where a link leads from a base, by the URL standard; None where one of them is no URL.
+
+    >>> join_url("https://a.org/b/c", "../d")
+    'https://a.org/d'
+    """
+    lent, other = utf8(base, "a base"), utf8(link, "a link")
+    room = Room(ctypes.c_char, len(lent) + len(other) + 64)
+    status = room.fill(lib.tl_join_url, lent, len(lent), other, len(other))
+    if status not in (DONE, REFUSED):
+        raise error_of(status)
+    return room.text() if status == DONE else None
+
+
+def _look_at(selector: bytes, status: int, place: int, cause: int) -> None:
     """Raises what a call says of a selector that is none, or a status that is no answer."""
     if cause:
-        raise SelectorError(selector, _characters(selector.encode(), place), cause)
+        raise SelectorError(selector.decode(), characters(selector, place), cause)
     if status != DONE:
         raise error_of(status)
 
 
+def _short(text: str) -> str:
+    """A text as it is shown, in some sixty characters."""
+    return repr(text if len(text) <= 60 else f"{text[:57]}...")
+
+
 class Node:
-    """A node of a document: an element, a text, a comment, a doctype, or the contents of a `template`."""
+    """A node of a document: an element, a text, a comment, a doctype, or the contents of a `template`.
+
+    >>> item = Document("<ul><LI id=a>one &amp; two").select_one("li")
+    >>> item
+    <Node 4: <li id="a">>
+    >>> item.name, item["id"], item.text, item.parent.name
+    ('li', 'a', 'one & two', 'ul')
+    """
 
     __slots__ = ("document", "number")
 
@@ -321,7 +346,17 @@ class Node:
         self.document, self.number = document, number
 
     def __repr__(self) -> str:
-        return f"<tlhtml.Node {self.number}: {self.kind} {self.name or ''}>".replace(" >", ">")
+        try:
+            return f"<Node {self.number}: {self._shown()}>"
+        except ValueError:
+            return f"<Node {self.number} of a closed document>"
+
+    def _shown(self) -> str:
+        kind = self.kind
+        if kind == "element":
+            keys = "".join(f' {key}="{value}"' if value else f" {key}" for key, value in self.attrs.items())
+            return f"<{self.name}{keys if len(keys) <= 60 else f'{keys[:57]}...'}>"
+        return f"contents of {self.parent!r}" if kind == "contents" else self.outer_html if kind == "doctype" else f"{kind} {_short(self.text)}"
 
     def __eq__(self, other: object) -> bool:
         return isinstance(other, Node) and self.document is other.document and self.number == other.number
@@ -333,23 +368,49 @@ class Node:
     def kind(self) -> str:
         """'element', 'text', 'comment', 'doctype', or 'contents': those of a `template`, in which stands what is written in it, are its one
         child."""
-        return KINDS[self.document._number(lib.tl_node_kind, self.number)]
+        rows = self.document._loaded or self.document._rows()
+        return KINDS[rows.kinds[self.number]]
 
     @property
     def namespace(self) -> str | None:
         """'html', 'svg' or 'mathml' of an element; None of any other node."""
-        return NAMESPACES[self.document._number(lib.tl_node_namespace, self.number)]
+        return NAMESPACES[self.document._rows().namespaces[self.number]]
 
     @property
     def name(self) -> str | None:
         """The name of an element, of HTML in lower case; None of any other node."""
-        return self.document._answer(Room.text, lib.tl_node_name, self.number)
+        document = self.document
+        if (document._loaded or document._rows()).kinds[self.number] != ELEMENT:
+            return None
+        parts = document._parts or document._parts_if_many()
+        if parts is None:
+            return document._answer(Room.text, lib.tl_node_name, self.number)
+        return parts.name(self.number)
+
+    tag = name
 
     @property
-    def attributes(self) -> dict[str, str]:
+    def attrs(self) -> dict[str, str]:
         """The attributes of an element in order, with keys as they are serialized (`xlink:href` in a `svg`); those that are keys alone, as
-        `hidden`, have the empty text."""
-        return self.document._answer(Room.attributes, lib.tl_node_attributes, self.number) or {}
+        `hidden`, have the empty text.
+
+        >>> Document("<a HREF=/x hidden>").select_one("a").attrs
+        {'href': '/x', 'hidden': ''}
+        """
+        document = self.document
+        if (document._loaded or document._rows()).kinds[self.number] != ELEMENT:
+            return {}
+        parts = document._parts or document._parts_if_many()
+        if parts is None:
+            return document._answer(Room.attributes, lib.tl_node_attributes, self.number) or {}
+        return parts.attributes(self.number)
+
+    attributes = attrs
+
+    @property
+    def classes(self) -> list[str]:
+        """The words of its class."""
+        return [it for it in re.split(f"[{_BLANKS}]+", self.get("class") or "") if it]
 
     def _key(self, key: object) -> bytes:
         """A key as it stands there: of an element of HTML in lower case."""
@@ -357,39 +418,143 @@ class Node:
         lowered = lent.lower()
         return lowered if lowered != lent and self.namespace == "html" else lent
 
+    def _value(self, key: object) -> str | None:
+        """The value at a key."""
+        lent = self._key(key)
+        document = self.document
+        if (document._loaded or document._rows()).kinds[self.number] != ELEMENT:
+            return None
+        parts = document._parts or document._parts_if_many()
+        if parts is None:
+            return document._answer(Room.text, lib.tl_attribute, self.number, lent, len(lent))
+        return parts.value(self.number, lent)
+
     def get(self, key: str, default: str | None = None) -> str | None:
         """The value at a key, as `xlink:href`, whose letters count in any case at an element of HTML; the default where there is no such
         key."""
-        lent = self._key(key)
-        value = self.document._answer(Room.text, lib.tl_attribute, self.number, lent, len(lent))
+        value = self._value(key)
         return default if value is None else value
 
     def __getitem__(self, key: str) -> str:
-        value = self.get(key)
+        """The value at a key; a KeyError where there is none."""
+        value = self._value(key)
         if value is None:
             raise KeyError(key)
         return value
 
     def __contains__(self, key: object) -> bool:
         """Whether a key stands there."""
-        lent = self._key(key)
-        return self.document._number(lib.tl_attribute, self.number, lent, len(lent), b"", 0, ctypes.c_size_t()) in (DONE, NO_ROOM)
+        return self._value(key) is not None
 
     @property
     def text(self) -> str:
         """What a text or a comment says; of any other node what the texts below it say, one after the other, without those in a
         `template` below it. A doctype says nothing."""
+        rows = self.document._loaded or self.document._rows()
+        if rows.ends[self.number] - self.number <= _MANY:
+            parts = self.document._parts or self.document._parts_if_many()
+            if parts is not None:
+                return b"".join([parts.parts[it] for it in rows.texts(self.number)]).decode()
         return self.document._text(lib.tl_node_text, self.number)
+
+    @property
+    def strings(self) -> Iterator[str]:
+        """What each text below it says, in order, without those in a `template` below it."""
+        return (text for _, text in self._texts())
+
+    def _texts(self) -> Iterator[tuple[int, str]]:
+        """The numbers of the texts below it, and what each says; a text and a comment have themselves."""
+        rows, parts = self.document._rows(), self.document._all_parts().parts
+        return ((number, parts[number].decode()) for number in rows.texts(self.number))
+
+    def get_text(self, separator: str = "", strip: bool = False) -> str:
+        """The texts below it with a separator between them; with `strip` without white space around each, and without those that are white
+        space alone.
+
+        >>> Document("<p> one <b>two</b> <i> three</i>").select_one("p").get_text("|", strip=True)
+        'one|two|three'
+        """
+        if not isinstance(separator, str):
+            raise TypeError(f"a separator is a str, not {type(separator).__name__}")
+        texts = [it.strip() for it in self.strings] if strip else list(self.strings)
+        return separator.join(it for it in texts if it or not strip)
+
+    @property
+    def readable_text(self) -> str:
+        """The text of what is below it as a browser shows it without style sheets, as `tl text -w` has it: blocks on lines of their own,
+        one space between words, without scripts and styles."""
+        return self.document._text(lib.tl_node_readable_text, self.number)
+
+    def find_text(self, wanted: str | Pattern[str]) -> list[Node]:
+        """The texts below it that hold a text, or in which a pattern of `re` is found, in order, without those in a `template` below it.
+
+        >>> [it.parent.name for it in Document("<p>Rye 3 EUR<p>Wheat").find_text("EUR")]
+        ['p']
+        """
+        if isinstance(wanted, str):
+            return [Node(self.document, number) for number, text in self._texts() if wanted in text]
+        if isinstance(wanted, re.Pattern):
+            return [Node(self.document, number) for number, text in self._texts() if wanted.search(text)]
+        raise TypeError(f"what is looked for is a str or a pattern, not {type(wanted).__name__}")
 
     @property
     def outer_html(self) -> str:
         """It as markup, as browsers serialize it."""
         return self.document._text(lib.tl_node_outer_html, self.number)
 
+    html = outer_html
+
     @property
     def inner_html(self) -> str:
         """What is inside as markup, of a `template` its contents. Nothing is inside of a text, a comment or a doctype."""
         return self.document._text(lib.tl_node_inner_html, self.number)
+
+    def rows(self) -> list[list[str]]:
+        """The rows of a `table`, each with a text for each column: the readable text of the cell that covers the place, so that one that
+        spans several says it in each; '' where none does. It is what `tl table` writes as CSV. Of another node it is a ValueError; where
+        the table has far more places than its page has bytes it is OutOfProportion."""
+        limit = 65536 + 64 * len(self.document._page)
+        with self.document._lock:
+            status = self.document._bytes.fill(lib.tl_table_csv, self.document._opened(), self.number, limit)
+            lines = self.document._bytes.text() if status == DONE else ""
+        if status == REFUSED:
+            raise ValueError(f"no table: {self!r}")
+        if status == NOT_UNDERSTOOD:
+            raise OutOfProportion("the table is out of proportion to its page")
+        if status != DONE:
+            raise error_of(status)
+        return list(csv.reader(io.StringIO(lines, newline="")))
+
+    def to_dict(self) -> dict[str, Any]:
+        """It with what is below it, as `tl select --json --tree` has it.
+
+        >>> Document("<p id=x>y").select_one("p").to_dict()["children"]
+        [{'attributes': {}, 'name': None, 'node': 4, 'start': 8, 'end': 9, 'text': 'y'}]
+        """
+        rows = self.document._rows()
+        made: dict[int, list[dict[str, Any]]] = {}
+        first = self._object(made)
+        for number in range(self.number + 1, rows.ends[self.number]):
+            made[rows.parents[number]].append(Node(self.document, number)._object(made))
+        return first
+
+    def _object(self, made: dict[int, list[dict[str, Any]]]) -> dict[str, Any]:
+        """It alone; where what is below it goes is put into `made`."""
+        kind = self.document._rows().kinds[self.number]
+        said: dict[str, Any] = {"attributes": self.attrs, "name": self.name}
+        if self.namespace in ("svg", "mathml"):
+            said["namespace"] = "svg" if self.namespace == "svg" else "math"
+        said["node"] = self.number
+        source = self.source
+        if source:
+            said["start"], said["end"] = source
+        if kind in (ELEMENT, CONTENTS):
+            made[self.number] = said["children" if kind == ELEMENT else "contents"] = []
+        elif kind in (TEXT, COMMENT):
+            said["text" if kind == TEXT else "comment"] = self.text
+        elif kind == DOCTYPE:
+            said["doctype"] = self.outer_html[len("<!DOCTYPE ") : -1]
+        return said
 
     @property
     def source(self) -> tuple[int, int] | None:
@@ -406,15 +571,33 @@ class Node:
         status = self.document._number(lib.tl_node_source, self.number, start, end)
         return (start.value, end.value) if status == DONE else None
 
-    def _linked(self, call: Callable[..., int]) -> Node | None:
-        """The node that a call says."""
-        number = self.document._number(call, self.number)
-        return None if number == NO_NODE else Node(self.document, number)
+    @property
+    def sourceline(self) -> int | None:
+        """The line of the page, from 1, where what it comes from begins; None where it comes from nowhere.
+
+        >>> item = Document("<ul>\\n  <li>x").select_one("li")
+        >>> item.sourceline, item.sourcepos
+        (2, 2)
+        """
+        source = self.source
+        return None if source is None else self.document._line_of(source[0])[0]
+
+    @property
+    def sourcepos(self) -> int | None:
+        """How many characters stand before that in its line."""
+        source = self.source
+        if source is None:
+            return None
+        return characters(self.document._page[self.document._line_of(source[0])[1] : source[0]], source[0])
+
+    def _linked(self, number: int | None) -> Node | None:
+        """The node of a number, if there is one."""
+        return None if number is None or number == NO_NODE else Node(self.document, number)
 
     @property
     def parent(self) -> Node | None:
         """The node that it stands in."""
-        return self._linked(lib.tl_node_parent)
+        return self._linked(self.document._rows().parents[self.number])
 
     @property
     def parents(self) -> Iterator[Node]:
@@ -427,49 +610,47 @@ class Node:
     @property
     def first_child(self) -> Node | None:
         """The first node in it."""
-        return self._linked(lib.tl_node_first_child)
+        return self._linked(self.number + 1 if self.document._rows().ends[self.number] > self.number + 1 else None)
 
     @property
     def next_sibling(self) -> Node | None:
         """The node behind it in what it stands in."""
-        return self._linked(lib.tl_node_next_sibling)
+        return self._linked(self.document._rows().next_sibling(self.number))
 
     @property
     def previous_sibling(self) -> Node | None:
         """The node before it there. That takes a time linear in how deep the tree is."""
-        return self._linked(lib.tl_node_previous_sibling)
+        return self._linked(self.document._rows().previous_sibling(self.number))
 
     @property
     def children(self) -> Iterator[Node]:
         """The nodes in it, in order."""
-        return _row(self.first_child)
+        rows = self.document._rows()
+        return (Node(self.document, number) for number in rows.siblings(self.number + 1, rows.ends[self.number]))
 
     @property
     def descendants(self) -> Iterator[Node]:
         """All nodes below it, in the order of the page; it is none of them."""
-        end = self.document._number(lib.tl_node_end, self.number)
-        return (Node(self.document, number) for number in range(self.number + 1, end))
+        return (Node(self.document, number) for number in range(self.number + 1, self.document._rows().ends[self.number]))
 
-    def select(self, selector: str) -> list[Node]:
+    def select(self, selector: str | Selector) -> list[Node]:
         """The elements below it where a selector of CSS holds, in order, without those in a `template` below it. The selector is asked of
-        the whole page, so it may name what stands around. `:scope` is the node, and `> li` is `:scope > li`."""
+        the whole page, so it may name what stands around. `:scope` is the node, and `> li` is `:scope > li`.
+
+        >>> items = Document("<ul><li>1<ul><li>2</ul></ul>").select_one("ul")
+        >>> len(items.select("li")), len(items.select("> li"))
+        (2, 1)
+        """
         return self.document._selected(lib.tl_node_select_css, selector, self.number)
 
-    def select_one(self, selector: str) -> Node | None:
-        """The first of them."""
+    def select_one(self, selector: str | Selector) -> Node | None:
+        """The first of them; None where there is none."""
         return self.document._selected_one(lib.tl_node_first_css, selector, self.number)
 
-    def closest(self, selector: str) -> Node | None:
+    def closest(self, selector: str | Selector) -> Node | None:
         """Of it and the elements that it stands in the innermost one where a selector of CSS holds. `:scope` is the node."""
         return self.document._selected_one(lib.tl_node_closest_css, selector, self.number)
 
-    def matches(self, selector: str) -> bool:
+    def matches(self, selector: str | Selector) -> bool:
         """Whether a selector of CSS holds at it. All but one of a name, ids, classes and keys (`li.a[href]`) is asked of the whole page."""
         return self.document._said(lib.tl_node_matches_css, selector, ctypes.c_uint8(), self.number) == 1
-
-
-def _row(node: Node | None) -> Iterator[Node]:
-    """A node and those behind it."""
-    while node is not None:
-        yield node
-        node = node.next_sibling

@@ -1,6 +1,8 @@
 """Why there is no answer. Where memory runs out that is a MemoryError."""
 from __future__ import annotations
 
+import re
+
 CAUSES = {
     1: "this is opened and never closed",
     2: "a selector is missing",
@@ -51,6 +53,33 @@ REASONS = {
 }
 
 
+# What to write in the place of pseudo-classes that browsers have, as `tl` says it.
+_NO_STATES = "a page has no states"
+PSEUDO_CLASSES = {
+    **dict.fromkeys(("active", "focus", "focus-visible", "focus-within", "hover", "target", "visited"), _NO_STATES),
+    "link": "write `[href]`",
+    "any-link": "write `[href]`",
+    "checked": "write `[checked]`",
+    "disabled": "write `[disabled]`",
+    "enabled": "write `:not([disabled])`",
+    "required": "write `[required]`",
+    "contains": "there is no test of texts",
+}
+
+
+def _hint(cause: int, word: str) -> str:
+    """What to do about a cause where this word stands, as `tl` says it; nothing where there is nothing to say."""
+    if cause == 9:
+        return PSEUDO_CLASSES.get(word.lower(), "a colon in a name is written `\\:`")
+    if cause == 4 and word == "!":
+        return "write `:not([key=value])`"
+    if cause == 5 and word not in ("", "]"):
+        return "a value that is no name stands in quotes"
+    if cause in (3, 6, 15) and word and word in "@$%&/!?;{}.":
+        return "it may stand in quotes in a value, and behind `\\` in a name"
+    return "a bar in a name is written `\\|`" if cause == 11 else ""
+
+
 class Error(Exception):
     """There is no answer."""
 
@@ -71,8 +100,16 @@ class SelectorError(Error, ValueError):
         self.selector, self.place, self.cause = selector, place, cause
         super().__init__(selector, place, cause)
 
+    @property
+    def word(self) -> str:
+        """The name that stands at the place, or else the character."""
+        found = re.match(r"[\w-]+|.|", self.selector[self.place :], re.DOTALL)
+        return found[0] if found else ""
+
     def __str__(self) -> str:
-        return f"no selector: {self.selector!r}: at {self.place}: {CAUSES.get(self.cause, f'cause {self.cause}')}"
+        said, word = CAUSES.get(self.cause, f"cause {self.cause}"), self.word
+        hint = _hint(self.cause, word)
+        return f"no selector: {self.selector!r}: at {self.place}: {said}" + f": `{word}`" * bool(word) + f" ({hint})" * bool(word and hint)
 
 
 class PolicyError(Error, ValueError):

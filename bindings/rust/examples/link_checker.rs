@@ -10,7 +10,7 @@ use tlhtml::Document;
 fn has_place(document: &Document, id: &str) -> Result<bool, tlhtml::Error> {
     let quoted = id.replace('\\', "\\\\").replace('"', "\\\"");
     Ok(document
-        .first(&format!("[id=\"{quoted}\"], a[name=\"{quoted}\"]"))?
+        .first(format!("[id=\"{quoted}\"], a[name=\"{quoted}\"]"))?
         .is_some())
 }
 
@@ -32,8 +32,8 @@ fn check(page: &str) -> Result<usize, Box<dyn Error>> {
     let mut lost = 0;
     for (selector, key) in [("a[href]", "href"), ("img[src]", "src")] {
         for node in document.select(selector)? {
-            let link = node.attribute(key)?.unwrap_or_default();
-            if !leads(&document, page, &link)? {
+            let link = node.attr(key).unwrap_or_default();
+            if !leads(&document, page, link)? {
                 println!("{page}: {link}");
                 lost += 1;
             }

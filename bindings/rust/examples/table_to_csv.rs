@@ -4,23 +4,21 @@ use std::io;
 use tlhtml::{Document, Node};
 
 /// A cell in quotes.
-fn quoted(cell: Node<'_>) -> Result<String, tlhtml::Error> {
-    Ok(format!(
-        "\"{}\"",
-        cell.text()?.trim_end().replace('"', "\"\"")
-    ))
+fn quoted(cell: Node<'_>) -> String {
+    let said: String = cell.text().collect();
+    format!("\"{}\"", said.trim_end().replace('"', "\"\""))
 }
 
 /// Whether a node is a cell.
 fn is_cell(node: Node<'_>) -> bool {
-    matches!(node.name(), Ok(Some(name)) if name == "td" || name == "th")
+    matches!(node.name(), Some("td" | "th"))
 }
 
 fn main() -> Result<(), Box<dyn Error>> {
     let document = Document::parse(&io::read_to_string(io::stdin())?)?;
     for row in document.select("tr")? {
         let cells = row.children().filter(|it| is_cell(*it)).map(quoted);
-        println!("{}", cells.collect::<Result<Vec<_>, _>>()?.join(","));
+        println!("{}", cells.collect::<Vec<_>>().join(","));
     }
     Ok(())
 }

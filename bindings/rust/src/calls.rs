@@ -1,5 +1,5 @@
 //! The calls of `tl.h`, and how room is lent to them.
-use crate::{Attribute, Error};
+use crate::Error;
 use std::ffi::c_void;
 
 /// `tl_document`.
@@ -47,8 +47,8 @@ pub const NO_NODE: u32 = u32::MAX;
 
 /// A call that makes bytes of a node.
 pub type OfNode = unsafe extern "C" fn(*mut Handle, u32, *mut u8, usize, *mut usize) -> u8;
-/// A call that says where a node stands.
-pub type Link = unsafe extern "C" fn(*mut Handle, u32) -> u32;
+/// A call that makes bytes of a document.
+pub type OfDocument = unsafe extern "C" fn(*mut Handle, *mut u8, usize, *mut usize) -> u8;
 
 unsafe extern "C" {
     pub fn tl_sanitize_html(
@@ -119,6 +119,15 @@ unsafe extern "C" {
         place: *mut usize,
         cause: *mut u8,
     ) -> u8;
+    pub fn tl_decode_page(
+        label: *const u8,
+        label_len: usize,
+        page: *const u8,
+        page_len: usize,
+        out: *mut u8,
+        room: usize,
+        needed: *mut usize,
+    ) -> u8;
     pub fn tl_version(out: *mut u8, room: usize, needed: *mut usize) -> u8;
     pub fn tl_parse_html(page: *const u8, page_len: usize, document: *mut Handle) -> u8;
     pub fn tl_free(document: *mut Handle);
@@ -126,6 +135,56 @@ unsafe extern "C" {
     pub fn tl_is_quirks(document: *mut Handle) -> u8;
     pub fn tl_document_html(
         document: *mut Handle,
+        out: *mut u8,
+        room: usize,
+        needed: *mut usize,
+    ) -> u8;
+    pub fn tl_document_pretty_html(
+        document: *mut Handle,
+        out: *mut u8,
+        room: usize,
+        needed: *mut usize,
+    ) -> u8;
+    pub fn tl_parts(document: *mut Handle, out: *mut u8, room: usize, needed: *mut usize) -> u8;
+    pub fn tl_document_links(
+        document: *mut Handle,
+        out: *mut u8,
+        room: usize,
+        needed: *mut usize,
+    ) -> u8;
+    pub fn tl_nodes(
+        document: *mut Handle,
+        numbers: *mut u32,
+        room: usize,
+        needed: *mut usize,
+    ) -> u8;
+    pub fn tl_join_url(
+        base: *const u8,
+        base_len: usize,
+        link: *const u8,
+        link_len: usize,
+        out: *mut u8,
+        room: usize,
+        needed: *mut usize,
+    ) -> u8;
+    pub fn tl_node_readable_text(
+        document: *mut Handle,
+        node: u32,
+        out: *mut u8,
+        room: usize,
+        needed: *mut usize,
+    ) -> u8;
+    pub fn tl_node_json(
+        document: *mut Handle,
+        node: u32,
+        out: *mut u8,
+        room: usize,
+        needed: *mut usize,
+    ) -> u8;
+    pub fn tl_table_csv(
+        document: *mut Handle,
+        node: u32,
+        limit: usize,
         out: *mut u8,
         room: usize,
         needed: *mut usize,
@@ -186,32 +245,11 @@ unsafe extern "C" {
         place: *mut usize,
         cause: *mut u8,
     ) -> u8;
-    pub fn tl_node_kind(document: *mut Handle, node: u32) -> u8;
-    pub fn tl_node_namespace(document: *mut Handle, node: u32) -> u8;
-    pub fn tl_node_parent(document: *mut Handle, node: u32) -> u32;
-    pub fn tl_node_first_child(document: *mut Handle, node: u32) -> u32;
-    pub fn tl_node_next_sibling(document: *mut Handle, node: u32) -> u32;
-    pub fn tl_node_previous_sibling(document: *mut Handle, node: u32) -> u32;
-    pub fn tl_node_end(document: *mut Handle, node: u32) -> u32;
     pub fn tl_node_source(
         document: *mut Handle,
         node: u32,
         start: *mut usize,
         end: *mut usize,
-    ) -> u8;
-    pub fn tl_node_name(
-        document: *mut Handle,
-        node: u32,
-        out: *mut u8,
-        room: usize,
-        needed: *mut usize,
-    ) -> u8;
-    pub fn tl_node_attributes(
-        document: *mut Handle,
-        node: u32,
-        out: *mut u8,
-        room: usize,
-        needed: *mut usize,
     ) -> u8;
     pub fn tl_node_outer_html(
         document: *mut Handle,
@@ -227,28 +265,12 @@ unsafe extern "C" {
         room: usize,
         needed: *mut usize,
     ) -> u8;
-    pub fn tl_attribute(
-        document: *mut Handle,
-        node: u32,
-        key: *const u8,
-        key_len: usize,
-        out: *mut u8,
-        room: usize,
-        needed: *mut usize,
-    ) -> u8;
-    pub fn tl_node_text(
-        document: *mut Handle,
-        node: u32,
-        out: *mut u8,
-        room: usize,
-        needed: *mut usize,
-    ) -> u8;
 }
 
 /// The statuses.
 pub const DONE: u8 = 0;
 pub const REFUSED: u8 = 1;
-const NOT_UNDERSTOOD: u8 = 2;
+pub const NOT_UNDERSTOOD: u8 = 2;
 const OUT_OF_MEMORY: u8 = 3;
 pub const NO_ROOM: u8 = 4;
 
@@ -315,34 +337,34 @@ pub fn text_of(bytes: Vec<u8>) -> String {
         .unwrap_or_else(|it| String::from_utf8_lossy(it.as_bytes()).into_owned())
 }
 
-/// A copy of them as a text.
-pub fn text_in(bytes: &[u8]) -> Result<String, u8> {
-    let mut copy = with_room(bytes.len())?;
-    copy.extend_from_slice(bytes);
-    Ok(text_of(copy))
+/// A copy of bytes.
+pub fn copy_of(bytes: &[u8]) -> Result<Vec<u8>, u8> {
+    with_more(Vec::new(), bytes)
 }
 
-// The number in 8 bytes, the lowest first, that stands at a place.
-fn number_at(bytes: &[u8], at: usize) -> usize {
+/// Bytes with more behind them.
+pub fn with_more(mut bytes: Vec<u8>, more: &[u8]) -> Result<Vec<u8>, u8> {
+    bytes.try_reserve(more.len()).map_err(|_| OUT_OF_MEMORY)?;
+    bytes.extend_from_slice(more);
+    Ok(bytes)
+}
+
+/// A copy of bytes as a text.
+pub fn text_in(bytes: &[u8]) -> Result<String, u8> {
+    copy_of(bytes).map(text_of)
+}
+
+/// Puts an item behind others.
+pub fn push<T>(items: &mut Vec<T>, item: T) -> Result<(), u8> {
+    items.try_reserve(1).map_err(|_| OUT_OF_MEMORY)?;
+    items.push(item);
+    Ok(())
+}
+
+/// The number in 8 bytes, the lowest first, that stands at a place.
+pub fn number_at(bytes: &[u8], at: usize) -> usize {
     let number = bytes[at..at + 8].iter().rev();
     number.fold(0, |number, byte| number << 8 | usize::from(*byte))
-}
-
-/// The keys and values that `tl_node_attributes` puts, in order.
-pub fn attributes_in(mut bytes: &[u8]) -> Result<Vec<Attribute>, u8> {
-    let mut attributes = Vec::new();
-    while !bytes.is_empty() {
-        let (key_len, value_len) = (number_at(bytes, 0), number_at(bytes, 8));
-        let (key, rest) = bytes[16..].split_at(key_len);
-        let (value, rest) = rest.split_at(value_len);
-        attributes.try_reserve(1).map_err(|_| OUT_OF_MEMORY)?;
-        attributes.push(Attribute {
-            key: text_in(key)?,
-            value: text_in(value)?,
-        });
-        bytes = rest;
-    }
-    Ok(attributes)
 }
 
 /// The text that a call answers, for which this room is lent first.

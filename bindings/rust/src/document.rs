@@ -1,127 +1,172 @@
 //! Documents.
 use crate::calls::{self, Handle};
-use crate::{Cause, Children, Error, Kind, Node};
-use std::cell::{RefCell, UnsafeCell};
+use crate::link::{self, Link};
+use crate::tree::Tree;
+use crate::{Cause, Children, Error, Kind, Node, Texts};
 use std::iter::FusedIterator;
 use std::ops::Range;
 use std::ptr;
+use std::sync::{Mutex, MutexGuard, PoisonError};
 
-/// The tree of a page, as browsers build it, which answers any number of questions. It keeps a copy of the page.
+/// The tree of a page, as browsers build it, which answers any number of questions.
 ///
 /// ```
 /// let document = tlhtml::Document::parse("<p>one<p class=b>two")?;
 /// let second = document.first("p.b")?.unwrap();
-/// assert_eq!(second.text()?, "two");
-/// assert_eq!(second.parent().unwrap().name()?.as_deref(), Some("body"));
+/// assert_eq!(second.text().collect::<String>(), "two");
+/// assert_eq!(second.parent().unwrap().name(), Some("body"));
 /// assert_eq!(document.html()?, "<html><head></head><body><p>one</p><p class=\"b\">two</p></body></html>");
 /// assert_eq!(document.select("p +")
 ///     .unwrap_err().to_string(), "no selector: at byte 3: a selector is missing");
 /// # Ok::<(), tlhtml::Error>(())
 /// ```
 ///
-/// It may be sent to another thread; two threads take turns (by a `Mutex`, say), since it is not `Sync`.
+/// Names, keys, values and texts are borrowed of the document, and take no memory. Threads may share one: what is borrowed and what stands
+/// around a node is asked side by side; of what else is asked, as of `select`, one waits for the other.
 pub struct Document {
-    // While a call lasts, what it is lent holds no document: so one call at a time, and none from inside of another.
-    handle: UnsafeCell<Handle>,
+    // What each node is, where it stands, and what it says. It isn't changed.
+    tree: Tree,
     // How much the page has, by which room is measured.
     page_len: usize,
-    // Room that answers are put into, so that none is made twice for want of it.
-    bytes: RefCell<Vec<u8>>,
-    numbers: RefCell<Vec<u32>>,
+    // While a call lasts, what it is lent holds no document: so one call at a time.
+    lent: Mutex<Lent>,
+}
+
+// What calls are lent: the document, and room that answers are put into, so that none is made twice for want of it.
+pub(crate) struct Lent {
+    pub(crate) handle: Handle,
+    bytes: Vec<u8>,
+    numbers: Vec<u32>,
 }
 
 // SAFETY: all that the handle leads to is the document's alone. The library keeps nothing elsewhere, takes memory by `malloc`, and hands
-// out no pointer; counts that it keeps inside count what stands inside. So which thread calls makes no difference, as long as it is one.
-unsafe impl Send for Document {}
+// out no pointer; counts that it keeps inside count what stands inside. So which thread calls makes no difference, as long as it is one at
+// a time, which the lock sees to.
+unsafe impl Send for Lent {}
+
+impl Drop for Lent {
+    fn drop(&mut self) {
+        unsafe { calls::tl_free(&mut self.handle) }
+    }
+}
 
 impl Document {
     /// Reads a page as browsers read it.
     pub fn parse(page: &str) -> Result<Document, Error> {
-        let mut handle = Handle {
+        let handle = Handle {
             at: ptr::null_mut(),
         };
-        match unsafe { calls::tl_parse_html(page.as_ptr(), page.len(), &mut handle) } {
-            calls::DONE => Ok(Document {
-                handle: UnsafeCell::new(handle),
-                page_len: page.len(),
-                bytes: RefCell::new(Vec::new()),
-                numbers: RefCell::new(Vec::new()),
-            }),
-            status => Err(calls::page_error_of(status, page)),
+        let (bytes, numbers) = (Vec::new(), Vec::new());
+        let mut lent = Lent {
+            handle,
+            bytes,
+            numbers,
+        };
+        match unsafe { calls::tl_parse_html(page.as_ptr(), page.len(), &mut lent.handle) } {
+            calls::DONE => {}
+            status => return Err(calls::page_error_of(status, page)),
+        }
+        Ok(Document {
+            tree: Tree::read(&mut lent.handle, page.len()).map_err(calls::error_of)?,
+            page_len: page.len(),
+            lent: Mutex::new(lent),
+        })
+    }
+
+    /// Reads a page of any encoding: that of its byte-order mark, else of this label of the Encoding standard (`latin1`, `koi8-r`), else
+    /// what the page says, as browsers tell it. U+FFFD stands for bytes that are wrong.
+    pub fn parse_bytes(page: &[u8], encoding: Option<&str>) -> Result<Document, Error> {
+        let label = encoding.unwrap_or("");
+        if encoding == Some("") {
+            return Err(Error::NoEncoding);
+        }
+        let (at, len) = (label.as_ptr(), label.len());
+        let text = calls::items(page.len() + page.len() / 8 + 64, |out, room, needed| unsafe {
+            calls::tl_decode_page(at, len, page.as_ptr(), page.len(), out, room, needed)
+        });
+        match text {
+            Ok(text) => Document::parse(&calls::text_of(text)),
+            Err(calls::REFUSED) => Err(Error::NoEncoding),
+            Err(status) => Err(calls::error_of(status)),
         }
     }
 
-    pub(crate) fn handle(&self) -> *mut Handle {
-        self.handle.get()
+    pub(crate) fn tree(&self) -> &Tree {
+        &self.tree
+    }
+
+    pub(crate) fn lent(&self) -> MutexGuard<'_, Lent> {
+        // (no call panics, and one that did would leave the document whole)
+        self.lent.lock().unwrap_or_else(PoisonError::into_inner)
     }
 
     /// Whether it is in quirks mode, as without a doctype. There classes and ids of selectors hold in any case.
     pub fn is_quirks(&self) -> bool {
-        unsafe { calls::tl_is_quirks(self.handle()) != 0 }
+        unsafe { calls::tl_is_quirks(&mut self.lent().handle) != 0 }
     }
 
-    /// The elements where a selector of CSS holds, in the order of the page, without those in a `template`. `:scope` is the root.
-    pub fn select(&self, selector: &str) -> Result<Vec<Node<'_>>, Error> {
-        let (at, len) = (selector.as_ptr(), selector.len());
-        self.selected(|numbers, room, needed, place, cause| unsafe {
-            calls::tl_select_css(self.handle(), at, len, numbers, room, needed, place, cause)
+    /// The elements where a selector of CSS holds, in the order of the page, without those in a `template`. `:scope` is the root. A
+    /// selector is a text, or a [`Selector`](crate::Selector).
+    pub fn select(&self, selector: impl AsRef<str>) -> Result<Select<'_>, Error> {
+        let (at, len) = lent_text(selector.as_ref());
+        self.selected(|document, numbers, room, needed, place, cause| unsafe {
+            calls::tl_select_css(document, at, len, numbers, room, needed, place, cause)
         })
     }
 
     /// The first of them.
-    pub fn first(&self, selector: &str) -> Result<Option<Node<'_>>, Error> {
-        let (at, len) = (selector.as_ptr(), selector.len());
-        self.selected_one(|number, place, cause| unsafe {
-            calls::tl_first_css(self.handle(), at, len, number, place, cause)
+    pub fn first(&self, selector: impl AsRef<str>) -> Result<Option<Node<'_>>, Error> {
+        let (at, len) = lent_text(selector.as_ref());
+        self.selected_one(|document, number, place, cause| unsafe {
+            calls::tl_first_css(document, at, len, number, place, cause)
         })
     }
 
     // What a call with a selector answers, which says also where and why it is none.
     pub(crate) fn by_selector<T>(
         &self,
-        call: impl FnOnce(&mut usize, &mut u8) -> Result<T, u8>,
+        call: impl FnOnce(&mut Lent, &mut usize, &mut u8) -> Result<T, u8>,
     ) -> Result<T, Error> {
         let (mut place, mut cause) = (0, 0);
-        let answer = call(&mut place, &mut cause);
-        answer.map_err(|status| match cause {
-            0 => calls::error_of(status),
-            cause => Error::NoSelector {
-                place,
-                cause: Cause::of_number(cause),
-            },
-        })
+        let answer = call(&mut self.lent(), &mut place, &mut cause);
+        answer.map_err(|status| selector_error_of(status, place, cause))
     }
 
     // The nodes of the numbers that such a call answers. There is room for those of all nodes.
     pub(crate) fn selected(
         &self,
-        call: impl Fn(*mut u32, usize, *mut usize, *mut usize, *mut u8) -> u8,
-    ) -> Result<Vec<Node<'_>>, Error> {
-        self.by_selector(|place, cause| {
-            let mut numbers = self.numbers.borrow_mut();
+        call: impl Fn(*mut Handle, *mut u32, usize, *mut usize, *mut usize, *mut u8) -> u8,
+    ) -> Result<Select<'_>, Error> {
+        self.by_selector(|lent, place, cause| {
+            let Lent {
+                handle, numbers, ..
+            } = lent;
             if numbers.capacity() == 0 {
-                *numbers = calls::with_room(self.node_count() as usize)?;
+                *numbers = calls::with_room(self.tree.len())?;
             }
-            let status = calls::fill(&mut numbers, |numbers, room, needed| {
-                call(numbers, room, needed, place, cause)
+            let status = calls::fill(numbers, |numbers, room, needed| {
+                call(handle, numbers, room, needed, place, cause)
             });
             if status != calls::DONE {
                 return Err(status);
             }
-            let mut nodes = calls::with_room(numbers.len())?;
-            nodes.extend(numbers.iter().map(|number| Node::new(self, *number)));
-            Ok(nodes)
+            let mut found = calls::with_room(numbers.len())?;
+            found.extend_from_slice(numbers);
+            Ok(Select {
+                document: self,
+                numbers: found.into_iter(),
+            })
         })
     }
 
     // The node of the number that such a call answers. Where there is none it is refused without a cause.
     pub(crate) fn selected_one(
         &self,
-        call: impl FnOnce(*mut u32, *mut usize, *mut u8) -> u8,
+        call: impl FnOnce(*mut Handle, *mut u32, *mut usize, *mut u8) -> u8,
     ) -> Result<Option<Node<'_>>, Error> {
-        self.by_selector(|place, cause| {
+        self.by_selector(|lent, place, cause| {
             let mut number = calls::NO_NODE;
-            match call(&mut number, place, cause) {
+            match call(&mut lent.handle, &mut number, place, cause) {
                 calls::DONE => Ok(Some(Node::new(self, number))),
                 calls::REFUSED if *cause == 0 => Ok(None),
                 status => Err(status),
@@ -129,20 +174,21 @@ impl Document {
         })
     }
 
-    fn node_count(&self) -> u32 {
-        unsafe { calls::tl_node_count(self.handle()) }
-    }
-
     /// The nodes at the top, in order: the `html`, with a doctype and comments before and behind it.
     pub fn children(&self) -> Children<'_> {
         Children::new(self.nodes().next())
+    }
+
+    /// The element that stands in no other: the `html`.
+    pub fn root_element(&self) -> Option<Node<'_>> {
+        self.children().find(|it| it.kind() == Kind::Element)
     }
 
     /// All nodes, in the order of the page: each comes before what is below it.
     pub fn nodes(
         &self,
     ) -> impl DoubleEndedIterator<Item = Node<'_>> + ExactSizeIterator + FusedIterator + Clone {
-        self.nodes_of(0..self.node_count())
+        self.nodes_of(0..self.tree.len() as u32)
     }
 
     // The nodes of some numbers.
@@ -153,39 +199,152 @@ impl Document {
         numbers.map(|number| Node::new(self, number))
     }
 
-    /// The texts of the page, one after the other, without those in a `template`: also what `script` and `style` hold.
-    pub fn text(&self) -> Result<String, Error> {
-        let root = self.children().find(|it| it.kind() == Kind::Element);
-        root.map_or(Ok(String::new()), Node::text)
+    /// The texts of the page, in order, without those in a `template`: also what `script` and `style` hold.
+    pub fn text(&self) -> Texts<'_> {
+        Texts::new(self, 0..self.tree.len() as u32)
+    }
+
+    /// The text of the page as a browser shows it without style sheets, as `tl text -w` has it: blocks on lines of their own, one space
+    /// between words, without scripts and styles.
+    ///
+    /// ```
+    /// let document = tlhtml::Document::parse("<title>t</title><h1>A\n &amp; B</h1><p>x<br>y<script>f()</script>")?;
+    /// assert_eq!(document.readable_text()?, "A & B\n\nx\ny");
+    /// # Ok::<(), tlhtml::Error>(())
+    /// ```
+    pub fn readable_text(&self) -> Result<String, Error> {
+        self.root_element()
+            .map_or(Ok(String::new()), Node::readable_text)
+    }
+
+    /// The texts of the page that hold a text, as [`Node::find_text`] has them.
+    pub fn find_text<'d>(&'d self, wanted: &str) -> impl Iterator<Item = Node<'d>> {
+        self.text()
+            .numbered()
+            .filter(move |(_, text)| text.contains(wanted))
+            .map(|(number, _)| Node::new(self, number))
     }
 
     /// The whole page as markup, as browsers serialize its tree.
     pub fn html(&self) -> Result<String, Error> {
-        self.answered(calls::text_in, |out, room, needed| unsafe {
-            calls::tl_document_html(self.handle(), out, room, needed)
+        self.text_of(calls::tl_document_html)
+    }
+
+    /// The same with a tag on each line where white space doesn't count, as `tl print --pretty`.
+    pub fn prettify(&self) -> Result<String, Error> {
+        self.text_of(calls::tl_document_pretty_html)
+    }
+
+    // The text that such a call answers.
+    fn text_of(&self, call: calls::OfDocument) -> Result<String, Error> {
+        self.answered(calls::text_in, |document, out, room, needed| unsafe {
+            call(document, out, room, needed)
         })
         .map_err(calls::error_of)
+    }
+
+    /// Each URL that an attribute of the page holds (`href`, `src`, `srcset` and all others that the HTML standard names), in the order of
+    /// the page, as `tl links` has them. With the URL of the page as the base each link says where it leads, also by way of the page's own
+    /// `base`; a base that is no URL is [`Error::NoUrl`].
+    ///
+    /// ```
+    /// let document = tlhtml::Document::parse("<a href='x?a=1&amp;b'>y</a>")?;
+    /// let links = document.links(Some("https://example.org/d/"))?;
+    /// assert_eq!((links[0].node.name(), links[0].key.as_str(), links[0].url.as_str()), (Some("a"), "href", "x?a=1&b"));
+    /// assert_eq!(links[0].target.as_deref(), Some("https://example.org/d/x?a=1&b"));
+    /// # Ok::<(), tlhtml::Error>(())
+    /// ```
+    pub fn links(&self, base: Option<&str>) -> Result<Vec<Link<'_>>, Error> {
+        link::links(self, base)
+    }
+
+    /// The rows of each table of the page, those in cells too, as [`Node::rows`] has them.
+    pub fn tables(&self) -> Result<Vec<Vec<Vec<String>>>, Error> {
+        let mut tables = Vec::new();
+        for table in self.select("table")? {
+            calls::push(&mut tables, table.rows()?.unwrap_or_default()).map_err(calls::error_of)?;
+        }
+        Ok(tables)
+    }
+
+    // The most bytes that the lines of a table may have.
+    pub(crate) fn table_limit(&self) -> usize {
+        self.page_len.saturating_mul(64).saturating_add(65536)
     }
 
     // What is made of the bytes that a call answers, or the status that is none.
     pub(crate) fn answered<T>(
         &self,
         make: impl FnOnce(&[u8]) -> Result<T, u8>,
-        call: impl FnMut(*mut u8, usize, *mut usize) -> u8,
+        mut call: impl FnMut(*mut Handle, *mut u8, usize, *mut usize) -> u8,
     ) -> Result<T, u8> {
-        let mut bytes = self.bytes.borrow_mut();
+        let Lent { handle, bytes, .. } = &mut *self.lent();
         if bytes.capacity() == 0 {
             *bytes = calls::with_room(self.page_len + 64)?;
         }
-        match calls::fill(&mut bytes, call) {
-            calls::DONE => make(&bytes),
+        match calls::fill(bytes, |out, room, needed| call(handle, out, room, needed)) {
+            calls::DONE => make(bytes),
             status => Err(status),
         }
     }
 }
 
-impl Drop for Document {
-    fn drop(&mut self) {
-        unsafe { calls::tl_free(self.handle()) }
+// A text as it is lent.
+pub(crate) fn lent_text(text: &str) -> (*const u8, usize) {
+    (text.as_ptr(), text.len())
+}
+
+// What a status says of a call with a selector.
+pub(crate) fn selector_error_of(status: u8, place: usize, cause: u8) -> Error {
+    match cause {
+        0 => calls::error_of(status),
+        cause => Error::NoSelector {
+            place,
+            cause: Cause::of_number(cause),
+        },
+    }
+}
+
+/// The elements that a selector found, in the order of the page.
+#[derive(Clone)]
+pub struct Select<'d> {
+    document: &'d Document,
+    numbers: std::vec::IntoIter<u32>,
+}
+
+impl<'d> Iterator for Select<'d> {
+    type Item = Node<'d>;
+
+    fn next(&mut self) -> Option<Node<'d>> {
+        let number = self.numbers.next()?;
+        Some(Node::new(self.document, number))
+    }
+
+    fn size_hint(&self) -> (usize, Option<usize>) {
+        self.numbers.size_hint()
+    }
+}
+
+impl DoubleEndedIterator for Select<'_> {
+    fn next_back(&mut self) -> Option<Self::Item> {
+        let number = self.numbers.next_back()?;
+        Some(Node::new(self.document, number))
+    }
+}
+
+impl ExactSizeIterator for Select<'_> {}
+
+impl FusedIterator for Select<'_> {}
+
+impl std::fmt::Debug for Select<'_> {
+    fn fmt(&self, f: &mut std::fmt::Formatter<'_>) -> std::fmt::Result {
+        f.debug_list().entries(self.clone()).finish()
+    }
+}
+
+impl PartialEq for Select<'_> {
+    /// Whether the same nodes are left.
+    fn eq(&self, other: &Self) -> bool {
+        self.clone().eq(other.clone())
     }
 }

@@ -12,6 +12,8 @@ pub enum Error {
         /// What is wrong with it.
         cause: Cause,
     },
+    /// A label is that of no encoding.
+    NoEncoding,
     /// Lists are no policy: [`Lists::refused_word`](crate::Lists::refused_word) says of which word.
     NoPolicy(Reason),
     /// A tag or an element can't be changed so.
@@ -26,6 +28,8 @@ pub enum Error {
     /// The tree of the page is far larger than the page: thousands of tags that are never closed, and are opened again in each of a
     /// hundred paragraphs, make such a tree.
     OutOfProportion,
+    /// The base of links is no URL.
+    NoUrl,
     /// Memory ran out, or the numbers of 32 bits for the parts of a tree did.
     OutOfMemory,
 }
@@ -36,10 +40,12 @@ impl fmt::Display for Error {
             Error::NoSelector { place, cause } => {
                 write!(f, "no selector: at byte {place}: {cause}")
             }
+            Error::NoEncoding => f.write_str("no label of an encoding"),
             Error::NoPolicy(reason) => write!(f, "no policy: {reason}"),
             Error::NotChanged { place, cause } => write!(f, "at byte {place}: {cause}"),
             Error::TooLong => f.write_str("the page is too long"),
             Error::OutOfProportion => f.write_str("the tree of the page is out of proportion"),
+            Error::NoUrl => f.write_str("the base is no URL"),
             Error::OutOfMemory => f.write_str("out of memory"),
         }
     }

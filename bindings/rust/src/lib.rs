@@ -5,9 +5,9 @@
 //!
 //! let document = Document::parse("<ul><LI><a HREF=/x?a=1&b>Bread &amp; butter</A><li>3 < 4")?;
 //! for link in document.select("li > a[href]")? {
-//!     assert_eq!(link.text()?, "Bread & butter");
-//!     assert_eq!(link.attribute("href")?.as_deref(), Some("/x?a=1&b"));
-//!     assert_eq!(link.outer_html()?, "<a href=\"/x?a=1&amp;b\">Bread &amp; butter</a>");
+//!     assert_eq!(link.text().collect::<String>(), "Bread & butter");
+//!     assert_eq!(link.attr("href"), Some("/x?a=1&b"));
+//!     assert_eq!(link.html()?, "<a href=\"/x?a=1&amp;b\">Bread &amp; butter</a>");
 //! }
 //! assert_eq!(tlhtml::sanitize("<p onclick=f()>I <3 <script>y</script>it")?, "<p>I &lt;3 it</p>");
 //! # Ok::<(), tlhtml::Error>(())
@@ -25,15 +25,21 @@
 mod calls;
 mod document;
 mod error;
+mod link;
 mod node;
 mod patch;
 mod policy;
+mod selector;
+mod table;
+mod tree;
 
-pub use document::Document;
+pub use document::{Document, Select};
 pub use error::{Cause, Error};
-pub use node::{Attribute, Children, Kind, Namespace, Node};
+pub use link::{Link, join_url};
+pub use node::{Attrs, Children, Kind, Namespace, Node, Texts};
 pub use patch::{Content, Edit, edit, set_attribute, unset_attribute};
 pub use policy::{Lists, Policy, Reason, sanitize_by};
+pub use selector::{Selector, css_escape};
 
 /// What the policy for the text of a blog keeps of a page, so that a browser builds just that: no scripts, no handlers of events, no
 /// styles, and links to the web, to mail and within the site alone. What people type is read as browsers read it, so `I <3 you` stays

@@ -12,13 +12,18 @@ use std::borrow::Cow;
 /// assert_eq!(lazy, "<!DOCTYPE html PUBLIC 'x'>\n<P><IMG loading=\"lazy\" SRC=a.png>3 < 4");
 /// # Ok::<(), tlhtml::Error>(())
 /// ```
-pub fn set_attribute(page: &str, selector: &str, key: &str, value: &str) -> Result<String, Error> {
-    patch(0, page, selector, key, value)
+pub fn set_attribute(
+    page: &str,
+    selector: impl AsRef<str>,
+    key: &str,
+    value: &str,
+) -> Result<String, Error> {
+    patch(0, page, selector.as_ref(), key, value)
 }
 
 /// The page with a key unset there.
-pub fn unset_attribute(page: &str, selector: &str, key: &str) -> Result<String, Error> {
-    patch(1, page, selector, key, "")
+pub fn unset_attribute(page: &str, selector: impl AsRef<str>, key: &str) -> Result<String, Error> {
+    patch(1, page, selector.as_ref(), key, "")
 }
 
 fn patch(edit: u8, page: &str, selector: &str, key: &str, value: &str) -> Result<String, Error> {
@@ -123,7 +128,8 @@ impl<'c> Edit<'c> {
 /// assert_eq!(edit(page, "b", Edit::Unwrap)?, "<!DOCTYPE html PUBLIC 'x'>\n<P>one two");
 /// # Ok::<(), tlhtml::Error>(())
 /// ```
-pub fn edit(page: &str, selector: &str, edit: Edit<'_>) -> Result<String, Error> {
+pub fn edit(page: &str, selector: impl AsRef<str>, edit: Edit<'_>) -> Result<String, Error> {
+    let selector = selector.as_ref();
     let (number, form, content) = edit.lent();
     // (names are in lower case, as keys are)
     let content = match edit {

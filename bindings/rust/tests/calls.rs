@@ -2,20 +2,25 @@
 use std::collections::HashSet;
 use std::thread;
 use tlhtml::{
-    Cause, Content, Document, Edit, Error, Kind, Namespace, Node, Policy, Reason, edit, sanitize,
-    sanitize_by, set_attribute, unset_attribute, version,
+    Cause, Content, Document, Edit, Error, Kind, Namespace, Node, Policy, Reason, Selector,
+    css_escape, edit, join_url, sanitize, sanitize_by, set_attribute, unset_attribute, version,
 };
 
 const PAGE: &str =
     "<UL><LI hidden class=a @click=f() href='?a=1&b=2&lt;'>x &amp; y<LI>3 < 4</UL><!-- c --><p>z";
 
-fn names(document: &Document, selector: &str) -> Vec<Option<String>> {
-    document
-        .select(selector)
-        .unwrap()
-        .into_iter()
-        .map(|it| it.name().unwrap())
-        .collect()
+fn names<'d>(document: &'d Document, selector: &str) -> Vec<Option<&'d str>> {
+    document.select(selector).unwrap().map(Node::name).collect()
+}
+
+// What a node says.
+fn said(node: Node<'_>) -> String {
+    node.text().collect()
+}
+
+// The nodes that a selector found.
+fn all<'d>(found: Result<impl Iterator<Item = Node<'d>>, Error>) -> Result<Vec<Node<'d>>, Error> {
+    Ok(found?.collect())
 }
 
 #[test]
@@ -23,19 +28,13 @@ fn selectors() {
     let document = Document::parse(PAGE).unwrap();
     assert_eq!(
         names(&document, "li, p"),
-        [Some("li".into()), Some("li".into()), Some("p".into())]
+        [Some("li"), Some("li"), Some("p")]
     );
-    assert!(document.select("i").unwrap().is_empty());
+    assert_eq!(document.select("i").unwrap().len(), 0);
     assert_eq!(document.first("i"), Ok(None));
-    assert_eq!(
-        document
-            .first("li + li")
-            .unwrap()
-            .unwrap()
-            .text()
-            .as_deref(),
-        Ok("3 < 4")
-    );
+    assert_eq!(said(document.first("li + li").unwrap().unwrap()), "3 < 4");
+    let last = document.select("li").unwrap().next_back().unwrap();
+    assert_eq!(said(last), "3 < 4");
     assert_eq!(document.select("[\\@click]").unwrap().len(), 1);
     assert_eq!(document.select(":scope"), document.select("html"));
     let wrong = Error::NoSelector {
@@ -60,7 +59,8 @@ fn selectors() {
 fn nodes() {
     let document = Document::parse(PAGE).unwrap();
     let top: Vec<_> = document.children().collect();
-    assert_eq!(top, document.select("html").unwrap());
+    assert_eq!(Ok(top.clone()), all(document.select("html")));
+    assert_eq!(document.root_element(), Some(top[0]));
     let body = document.first("body").unwrap().unwrap();
     let parts: Vec<_> = body.children().collect();
     assert_eq!(
@@ -68,22 +68,22 @@ fn nodes() {
         [Kind::Element, Kind::Comment, Kind::Element]
     );
     let (list, comment, last) = (parts[0], parts[1], parts[2]);
-    assert_eq!(comment.name(), Ok(None));
-    assert_eq!(comment.outer_html().as_deref(), Ok("<!-- c -->"));
-    assert_eq!(comment.text().as_deref(), Ok(" c "));
+    assert_eq!(comment.name(), None);
+    assert_eq!(comment.html().as_deref(), Ok("<!-- c -->"));
+    assert_eq!(said(comment), " c ");
     let item = list.first_child().unwrap();
     let second = item.next_sibling().unwrap();
-    assert_eq!(second.outer_html().as_deref(), Ok("<li>3 &lt; 4</li>"));
+    assert_eq!(second.html().as_deref(), Ok("<li>3 &lt; 4</li>"));
     assert_eq!(second.inner_html().as_deref(), Ok("3 &lt; 4"));
     assert_eq!(second.prev_sibling(), Some(item));
     assert_eq!((item.prev_sibling(), second.next_sibling()), (None, None));
     assert_eq!((item.parent(), top[0].parent()), (Some(list), None));
     assert_eq!(item.ancestors().collect::<Vec<_>>(), [list, body, top[0]]);
-    assert_eq!(item.text().as_deref(), Ok("x & y"));
+    assert_eq!(said(item), "x & y");
     let text = item.children().next().unwrap();
-    assert_eq!((text.kind(), text.name()), (Kind::Text, Ok(None)));
-    assert_eq!(text.text().as_deref(), Ok("x & y"));
-    assert_eq!(text.outer_html().as_deref(), Ok("x &amp; y"));
+    assert_eq!((text.kind(), text.name()), (Kind::Text, None));
+    assert_eq!(said(text), "x & y");
+    assert_eq!(text.html().as_deref(), Ok("x &amp; y"));
     assert_eq!(text.inner_html().as_deref(), Ok(""));
     assert_eq!(text.first_child(), None);
     assert_eq!(list.descendants().len(), 4);
@@ -98,13 +98,15 @@ fn nodes() {
     assert!(same.number() == item.number() && same != item);
     let set = HashSet::from([item, same, document.first("li").unwrap().unwrap()]);
     assert_eq!(set.len(), 2);
-    assert_eq!(format!("{item:?}"), "Node(4)");
+    let shown = r#"Node(4: <li hidden="" class="a" @click="f()" href="?a=1&b=2<">)"#;
+    assert_eq!(format!("{item:?}"), shown);
+    assert_eq!(format!("{text:?}"), "Node(5: \"x & y\")");
 }
 
 #[test]
 fn whole_pages() {
     let document = Document::parse(PAGE).unwrap();
-    assert_eq!(document.text().as_deref(), Ok("x & y3 < 4z"));
+    assert_eq!(document.text().collect::<String>(), "x & y3 < 4z");
     assert_eq!(
         document.html().as_deref(),
         Ok(concat!(
@@ -118,7 +120,7 @@ fn whole_pages() {
         empty.html().as_deref(),
         Ok("<html><head></head><body></body></html>")
     );
-    assert_eq!(empty.text().as_deref(), Ok(""));
+    assert_eq!(empty.text().count(), 0);
     assert_eq!(empty.children().count(), 1);
     let page = "<!doctype html><!-- a --><title>b</title>";
     let document = Document::parse(page).unwrap();
@@ -126,13 +128,10 @@ fn whole_pages() {
     let kinds: Vec<_> = document.children().map(|it| it.kind()).collect();
     assert_eq!(kinds, [Kind::Doctype, Kind::Comment, Kind::Element]);
     let doctype = document.nodes().next().unwrap();
-    assert_eq!(doctype.outer_html().as_deref(), Ok("<!DOCTYPE html>"));
-    assert_eq!(
-        (doctype.text().as_deref(), doctype.name()),
-        (Ok(""), Ok(None))
-    );
+    assert_eq!(doctype.html().as_deref(), Ok("<!DOCTYPE html>"));
+    assert_eq!((doctype.text().count(), doctype.name()), (0, None));
     assert_eq!(doctype.source(), Some(0..15));
-    assert_eq!(document.text().as_deref(), Ok("b"));
+    assert!(document.text().eq(["b"]));
 }
 
 /// Without a doctype classes and ids hold in any case. A byte order mark is no part of the tree, and counts in places.
@@ -154,7 +153,7 @@ fn quirks_and_marks() {
     );
     assert_eq!(found(standard, ".A#B"), Ok(1));
     let document = Document::parse(quirky).unwrap();
-    assert_eq!(document.text().as_deref(), Ok("x"));
+    assert!(document.text().eq(["x"]));
     assert_eq!(document.first("p").unwrap().unwrap().source(), Some(3..19));
 }
 
@@ -165,10 +164,10 @@ fn tables() {
     let document = Document::parse(page).unwrap();
     let row = document.first("table > tbody > tr").unwrap().unwrap();
     assert_eq!(document.select("#t > tbody > tr > td").unwrap().len(), 2);
-    assert!(document.select("table > tr").unwrap().is_empty());
+    assert_eq!(document.select("table > tr").unwrap().len(), 0);
     let body = row.parent().unwrap();
-    assert_eq!(body.name().unwrap().as_deref(), Some("tbody"));
-    assert_eq!((body.source(), body.attributes()), (None, Ok(vec![])));
+    assert_eq!(body.name(), Some("tbody"));
+    assert_eq!((body.source(), body.attrs().count()), (None, 0));
     let place = |node: Node<'_>| node.source().map(|it| page[it].to_string());
     assert_eq!(place(row).as_deref(), Some("<TR CLASS=r>"));
     let cell = row.first(":scope > td:last-child").unwrap().unwrap();
@@ -199,23 +198,14 @@ fn namespaces() {
     let bold = icon.first("title > b").unwrap().unwrap();
     assert_eq!(bold.namespace(), Some(html));
     assert_eq!(bold.first_child().unwrap().namespace(), None);
-    assert_eq!(
-        icon.attribute("viewBox").unwrap().as_deref(),
-        Some("0 0 1 1")
-    );
-    assert_eq!(icon.attribute("viewbox"), Ok(None));
+    assert_eq!(icon.attr("viewBox"), Some("0 0 1 1"));
+    assert_eq!(icon.attr("viewbox"), None);
     let used = document.first("use").unwrap().unwrap();
-    assert_eq!(used.attribute("xlink:href").unwrap().as_deref(), Some("#a"));
-    assert_eq!(used.attribute("href").unwrap().as_deref(), Some("#b"));
-    let keys: Vec<_> = used
-        .attributes()
-        .unwrap()
-        .into_iter()
-        .map(|it| it.key)
-        .collect();
-    assert_eq!(keys, ["xlink:href", "href"]);
+    assert_eq!(used.attr("xlink:href"), Some("#a"));
+    assert_eq!(used.attr("href"), Some("#b"));
+    assert!(used.attrs().map(|it| it.0).eq(["xlink:href", "href"]));
     assert_eq!(
-        used.outer_html().as_deref(),
+        used.html().as_deref(),
         Ok("<use xlink:href=\"#a\" href=\"#b\"></use>")
     );
 }
@@ -227,7 +217,7 @@ fn templates() {
     let contents = template.first_child().unwrap();
     assert_eq!(
         (contents.kind(), contents.name(), contents.source()),
-        (Kind::Contents, Ok(None), None)
+        (Kind::Contents, None, None)
     );
     assert_eq!(template.children().count(), 1);
     assert_eq!(
@@ -236,20 +226,20 @@ fn templates() {
     );
     assert_eq!(contents.inner_html(), template.inner_html());
     assert_eq!(
-        template.outer_html().as_deref(),
+        template.html().as_deref(),
         Ok("<template id=\"t\"><p class=\"a\">x</p>y</template>")
     );
     assert_eq!(document.select("p").unwrap().len(), 1);
-    assert!(template.select("p").unwrap().is_empty());
+    assert_eq!(template.select("p").unwrap().len(), 0);
     let inside = contents.first("p.a").unwrap().unwrap();
     assert_eq!(inside.parent(), Some(contents));
     assert_eq!(contents.parent(), Some(template));
     assert_eq!(inside.matches("p.a"), Ok(true));
     assert_eq!(
-        (template.text().as_deref(), contents.text().as_deref()),
-        (Ok(""), Ok("xy"))
+        (said(template), said(contents)),
+        (String::new(), "xy".into())
     );
-    assert_eq!(document.text().as_deref(), Ok("z"));
+    assert!(document.text().eq(["z"]));
 }
 
 /// What stands in a script and a style is printed as it is.
@@ -262,12 +252,9 @@ fn raw_texts() {
         format!("<html><head>{page}</head><body></body></html>")
     );
     let script = document.first("script").unwrap().unwrap();
-    assert_eq!(script.text().as_deref(), Ok("if (a < b && c) f(\"<p>\")"));
-    assert_eq!(script.text(), script.inner_html());
-    assert_eq!(
-        script.first_child().unwrap().outer_html(),
-        script.inner_html()
-    );
+    assert_eq!(said(script), "if (a < b && c) f(\"<p>\")");
+    assert_eq!(Ok(said(script)), script.inner_html());
+    assert_eq!(script.first_child().unwrap().html(), script.inner_html());
 }
 
 #[test]
@@ -283,9 +270,9 @@ fn below_a_node() {
     assert_eq!((list.first("ul"), item.first("*")), (Ok(None), Ok(None)));
     assert_eq!(list.select("> li"), document.select("li"));
     assert_eq!(list.first("> li"), Ok(Some(item)));
-    assert_eq!(list.select(":scope > li:first-child"), Ok(vec![item]));
+    assert_eq!(all(list.select(":scope > li:first-child")), Ok(vec![item]));
     assert_eq!(
-        (item.select("+ li"), item.first("~ li")),
+        (all(item.select("+ li")), item.first("~ li")),
         (Ok(vec![]), Ok(None))
     );
     for (selector, wanted) in [
@@ -300,7 +287,7 @@ fn below_a_node() {
     }
     let text = item.children().next().unwrap();
     assert_eq!(
-        (text.matches("*"), text.select("*")),
+        (text.matches("*"), all(text.select("*"))),
         (Ok(false), Ok(vec![]))
     );
     assert_eq!(text.closest("li"), Ok(Some(item)));
@@ -321,37 +308,242 @@ fn below_a_node() {
 fn attributes() {
     let document = Document::parse(PAGE).unwrap();
     let item = document.first("li").unwrap().unwrap();
-    assert_eq!(
-        item.attribute("HREF").unwrap().as_deref(),
-        Some("?a=1&b=2<")
-    );
-    assert_eq!(item.attribute("@click").unwrap().as_deref(), Some("f()"));
-    assert_eq!(item.attribute("hidden").unwrap().as_deref(), Some(""));
-    assert_eq!(item.attribute("id"), Ok(None));
-    assert!(item.has_attribute("hidden") && item.has_attribute("Href"));
-    assert!(!item.has_attribute("id") && !item.has_attribute(""));
-    let pairs: Vec<_> = item
-        .attributes()
-        .unwrap()
-        .into_iter()
-        .map(|it| (it.key, it.value))
-        .collect();
+    assert_eq!(item.attr("HREF"), Some("?a=1&b=2<"));
+    assert_eq!(item.attr("@click"), Some("f()"));
+    assert_eq!(item.attr("hidden"), Some(""));
+    assert_eq!(item.attr("id"), None);
+    assert!(item.has_attr("hidden") && item.has_attr("Href"));
+    assert!(!item.has_attr("id") && !item.has_attr(""));
     let wanted = [
         ("hidden", ""),
         ("class", "a"),
         ("@click", "f()"),
         ("href", "?a=1&b=2<"),
     ];
-    assert_eq!(
-        pairs,
-        wanted.map(|(key, value)| (key.to_string(), value.to_string()))
-    );
+    assert!(item.attrs().eq(wanted));
+    assert!(item.classes().eq(["a"]));
     let text = item.children().next().unwrap();
+    assert_eq!((text.attr("id"), text.attrs().count()), (None, 0));
+    assert!(!text.has_attr("id"));
+}
+
+/// What is borrowed of a document stays for as long as that.
+#[test]
+fn borrowed_texts() {
+    let document = Document::parse("<p title=a>b</p>").unwrap();
+    let (title, text) = {
+        let paragraph = document.select("p").unwrap().next().unwrap();
+        (paragraph.attr("title"), paragraph.text().next())
+    };
+    assert_eq!((title, text), (Some("a"), Some("b")));
+}
+
+/// What stands around each node of some pages is what their own trees say, each in its own way.
+#[test]
+fn places_agree() {
+    for page in [
+        PAGE,
+        "",
+        "<!doctype html><!-- a --><p>x<b>y</b></p><!-- c -->",
+        "<template><p>x</p>y<template>z</template>u</template><p>v",
+        "<table><tr><td>1<td>2<tr><td>3</table><svg><g/></svg>",
+    ] {
+        let document = Document::parse(page).unwrap();
+        for node in document.nodes() {
+            let children: Vec<_> = document
+                .nodes()
+                .filter(|it| it.parent() == Some(node))
+                .collect();
+            assert_eq!(node.children().collect::<Vec<_>>(), children);
+            assert_eq!(node.first_child(), children.first().copied());
+            for pair in children.windows(2) {
+                assert_eq!(pair[0].next_sibling(), Some(pair[1]));
+                assert_eq!(pair[1].prev_sibling(), Some(pair[0]));
+            }
+            let below = document
+                .nodes()
+                .filter(|it| it.ancestors().any(|outer| outer == node));
+            assert!(below.eq(node.descendants()));
+        }
+    }
+}
+
+#[test]
+fn texts() {
+    let page = "<title>t</title><p> one <b>two</b>\n<!-- c --><template>x</template>three<script>f()</script>";
+    let document = Document::parse(page).unwrap();
+    let paragraph = document.first("p").unwrap().unwrap();
+    let wanted = [" one ", "two", "\n", "three", "f()"];
+    assert!(paragraph.text().eq(wanted));
+    assert!(document.text().skip(1).eq(wanted));
+    assert_eq!(paragraph.readable_text().as_deref(), Ok("one two three"));
+    assert_eq!(document.readable_text().as_deref(), Ok("one two three"));
+    let found: Vec<_> = paragraph.find_text("o").collect();
+    assert_eq!(found.len(), 2);
+    assert_eq!(found[1].parent().unwrap().name(), Some("b"));
+    assert_eq!(document.find_text("x").count(), 0);
+}
+
+#[test]
+fn prints() {
+    let document = Document::parse("<ul><li>a").unwrap();
+    let lines = "<html>\n  <head></head>\n  <body>\n    <ul>\n      <li>a</li>\n    </ul>\n  </body>\n</html>\n";
+    assert_eq!(document.prettify().as_deref(), Ok(lines));
+    let item = document.first("li").unwrap().unwrap();
     assert_eq!(
-        (text.attribute("id"), text.attributes()),
-        (Ok(None), Ok(vec![]))
+        item.json().as_deref(),
+        Ok(
+            r#"[{"attributes":{},"name":"li","node":4,"start":4,"end":8,"children":[{"attributes":{},"name":null,"node":5,"start":8,"end":9,"text":"a"}]}]"#
+        )
     );
-    assert!(!text.has_attribute("id"));
+    let page = "<ul>\n\n é<li>";
+    let document = Document::parse(page).unwrap();
+    let item = document.first("li").unwrap().unwrap();
+    assert_eq!(item.line_of(page), Some((3, 3)));
+    assert_eq!(document.first("head").unwrap().unwrap().line_of(page), None);
+}
+
+#[test]
+fn links() {
+    let page = "<a href=' x?a=1&amp;b '>y</a><img srcset='/s.png 1x, //b.org/l.png 2x'><a href='http://['>z</a>";
+    let document = Document::parse(page).unwrap();
+    let links = document.links(None).unwrap();
+    let said: Vec<_> = links
+        .iter()
+        .map(|it| (it.key.as_str(), it.url.as_str()))
+        .collect();
+    let wanted = [
+        ("href", "x?a=1&b"),
+        ("srcset", "/s.png"),
+        ("srcset", "//b.org/l.png"),
+        ("href", "http://["),
+    ];
+    assert_eq!(said, wanted);
+    assert_eq!(
+        (links[1].node.name(), &links[1].target),
+        (Some("img"), &None)
+    );
+    let targets = |page: &str, base| -> Vec<Option<String>> {
+        let document = Document::parse(page).unwrap();
+        let links = document.links(Some(base)).unwrap();
+        links.into_iter().map(|it| it.target).collect()
+    };
+    let wanted = [
+        Some("https://a.org/d/x?a=1&b"),
+        Some("https://a.org/s.png"),
+        Some("https://b.org/l.png"),
+        None,
+    ];
+    assert_eq!(
+        targets(page, "https://a.org/d/e"),
+        wanted.map(|it| it.map(String::from))
+    );
+    for (base, wanted) in [
+        ("/f/", "https://a.org/f/x"),
+        ("https://c.org", "https://c.org/x"),
+        ("data:text/html,x", "https://a.org/d/x"),
+        ("javascript:x", "https://a.org/d/x"),
+        ("http://[", "https://a.org/d/x"),
+    ] {
+        let page = format!("<base href='{base}'><a href=x>");
+        assert_eq!(
+            targets(&page, "https://a.org/d/e")[1].as_deref(),
+            Some(wanted)
+        );
+    }
+    assert_eq!(document.links(Some("x")), Err(Error::NoUrl));
+    assert_eq!(join_url("x", "y"), Ok(None));
+}
+
+#[test]
+fn rows_of_tables() {
+    let page = "<table><tr><th rowspan=2>Name<th>Price, EUR<tr><th>\"a\"</table><table><tr></table><table></table>";
+    let document = Document::parse(page).unwrap();
+    let tables = document.tables().unwrap();
+    assert_eq!(tables[0], [["Name", "Price, EUR"], ["Name", "\"a\""]]);
+    assert_eq!(tables[1], [[""]]);
+    assert!(tables[2].is_empty() && tables.len() == 3);
+    assert_eq!(document.first("tr").unwrap().unwrap().rows(), Ok(None));
+    let wide = format!(
+        "<table><tr><td colspan=1000 rowspan=0>{}{}",
+        "x".repeat(100),
+        "<tr>".repeat(1000)
+    );
+    let document = Document::parse(&wide).unwrap();
+    assert_eq!(document.tables(), Err(Error::OutOfProportion));
+}
+
+#[test]
+fn selectors_that_are_read_once() {
+    let items = Selector::parse("ul > li").unwrap();
+    let document = Document::parse(PAGE).unwrap();
+    assert_eq!(document.select(&items), document.select("ul > li"));
+    let item = document.first(&items).unwrap().unwrap();
+    assert_eq!(
+        (item.matches(&items), item.closest(&items)),
+        (Ok(true), Ok(Some(item)))
+    );
+    let body = document.first("body").unwrap().unwrap();
+    assert_eq!(
+        body.select(Selector::parse("> *").unwrap()).unwrap().len(),
+        2
+    );
+    assert_eq!(
+        (items.as_str(), items.to_string().as_str()),
+        ("ul > li", "ul > li")
+    );
+    assert_eq!(
+        edit("<p>x</p>", Selector::parse("p").unwrap(), Edit::Remove).as_deref(),
+        Ok("")
+    );
+    let (place, cause) = (2, Cause::Unexpected);
+    assert_eq!(
+        Selector::parse("a ]"),
+        Err(Error::NoSelector { place, cause })
+    );
+    for (name, wanted) in [
+        ("abc-_1", "abc-_1"),
+        ("1a", r"\31 a"),
+        ("-1", r"-\31 "),
+        ("-", r"\-"),
+        ("--", "--"),
+        ("a b", r"a\ b"),
+        ("é\u{80}", "é\u{80}"),
+        ("\0", "\u{fffd}"),
+        ("\u{1f}\u{7f}", r"\1f \7f "),
+        ("a.b:c", r"a\.b\:c"),
+        ("", ""),
+    ] {
+        assert_eq!(css_escape(name), wanted);
+    }
+}
+
+/// A document may be lent to several threads at once.
+#[test]
+fn a_document_of_several_threads() {
+    let page: String = (0..200).map(|it| format!("<p id=u{it}>{it}")).collect();
+    let document = Document::parse(&page).unwrap();
+    thread::scope(|scope| {
+        for first in 0..8 {
+            let document = &document;
+            scope.spawn(move || {
+                for number in (first..200).step_by(3) {
+                    let node = document.first(format!("#u{number}")).unwrap().unwrap();
+                    assert_eq!(said(node), number.to_string());
+                    assert_eq!(node.inner_html(), Ok(number.to_string()));
+                }
+            });
+        }
+    });
+}
+
+fn is_send_and_sync<T: Send + Sync>() {}
+
+#[test]
+fn types() {
+    is_send_and_sync::<Document>();
+    is_send_and_sync::<Node<'_>>();
+    is_send_and_sync::<Selector>();
 }
 
 #[test]
@@ -398,7 +590,9 @@ fn lists_of_ones_own() {
     assert_eq!(lists.refused_word(), Ok(None));
     assert_eq!(
         lists.classes("+hljs").options().as_deref(),
-        Ok("--tags p,a\n--keys class,href,rel\n--link-keys cite,href\n--links https://,http://\n--relative-links\n--nofollow-links\n--classes hljs\n--prefix user-\n")
+        Ok(
+            "--tags p,a\n--keys class,href,rel\n--link-keys cite,href\n--links https://,http://\n--relative-links\n--nofollow-links\n--classes hljs\n--prefix user-\n"
+        )
     );
     let web = Policy::Blog.lists().link_prefixes("https://");
     assert_eq!(web.sanitize("<a href=/x>y").as_deref(), Ok("<a>y</a>"));
@@ -534,15 +728,9 @@ fn many_attributes() {
         .map(|it| format!(" k{it}=\"{it}&amp;\""))
         .collect();
     let document = Document::parse(&format!("<p{keys} hidden>")).unwrap();
-    let attributes = document.select("p").unwrap()[0].attributes().unwrap();
+    let attributes: Vec<_> = document.first("p").unwrap().unwrap().attrs().collect();
     assert_eq!(attributes.len(), 2_001);
-    assert_eq!(
-        (
-            attributes[1_999].key.as_str(),
-            attributes[1_999].value.as_str()
-        ),
-        ("k1999", "1999&")
-    );
+    assert_eq!(attributes[1_999], ("k1999", "1999&"));
 }
 
 #[test]
@@ -578,11 +766,11 @@ fn changes() {
 fn long_answers() {
     let long = "z".repeat(100_000);
     let document = Document::parse(&format!("<b>{long}</b>{}", "<i>&lt;".repeat(1000))).unwrap();
-    assert_eq!(document.select("b").unwrap()[0].text(), Ok(long));
+    assert_eq!(said(document.first("b").unwrap().unwrap()), long);
     assert_eq!(document.select("i").unwrap().len(), 1000);
     assert_eq!(
-        document.select("i").unwrap()[0].text(),
-        Ok("<".repeat(1000))
+        said(document.first("i").unwrap().unwrap()),
+        "<".repeat(1000)
     );
     assert_eq!(document.select("*").unwrap().len(), 1004);
     let quotes = format!("<p>{}", "&quot;&lt;".repeat(50_000));
@@ -606,10 +794,8 @@ fn threads() {
                 for turn in 0..200 {
                     let page = format!("<p id=user-{number}>{turn}");
                     let document = Document::parse(&page).unwrap();
-                    assert_eq!(
-                        document.select("p").unwrap()[0].attribute("id").unwrap(),
-                        Some(format!("user-{number}"))
-                    );
+                    let paragraph = document.first("p").unwrap().unwrap();
+                    assert_eq!(paragraph.attr("id"), Some(&*format!("user-{number}")));
                     assert_eq!(
                         sanitize(&page),
                         Ok(format!("<p id=\"user-{number}\">{turn}</p>"))

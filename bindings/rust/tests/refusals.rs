@@ -3,9 +3,10 @@
 
 use std::ffi::c_long;
 use std::fmt::Debug;
-use tlhtml::{Content, Document, Edit, Error, Policy, edit, sanitize};
+use tlhtml::{Content, Document, Edit, Error, Policy, Selector, edit, sanitize};
 
-const PAGE: &str = "<ul><LI class=a @click=f() href='?a=1&b'>x &amp; y<LI>3 < 4</UL><p>z";
+const PAGE: &str =
+    "<ul><LI class=a @click=f() href='?a=1&b'>x &amp; y<LI>3 < 4</UL><p>z<table><td>y";
 
 unsafe extern "C" {
     fn tl_test_refuse(number: c_long);
@@ -50,23 +51,33 @@ fn each_call() {
     check(|| Policy::Blog.lists().tags("p,li").sanitize(PAGE));
     check(|| Policy::Blog.lists().tags("p,script").refused_word());
     check(|| edit(PAGE, "li", Edit::Fill(Content::Text("<"))));
-    check(|| Document::parse(PAGE)?.text());
+    check(|| Ok(Document::parse(PAGE)?.text().collect::<String>()));
+    check(|| Selector::parse("ul > li"));
     check(|| document.select("ul > li"));
+    check(|| document.links(Some("https://a.org/")));
+    check(|| document.tables());
+    check(|| document.prettify());
+    check(|| document.readable_text());
+    check(|| item.json());
     check(|| document.first("ul > li"));
     check(|| item.select("ul > li"));
     check(|| item.first("ul > li"));
     check(|| item.closest("ul > li"));
     check(|| item.matches("ul > li"));
-    check(|| item.text());
-    check(|| item.outer_html());
+    check(|| item.html());
     check(|| item.inner_html());
-    check(|| item.attributes());
     check(|| document.html());
-    check_none(|| item.attribute("@click"));
+    check_none(|| {
+        (
+            item.attr("@click"),
+            item.attrs().count(),
+            item.text().count(),
+        )
+    });
     check_none(|| (item.name(), item.kind(), item.namespace(), item.source()));
     check_none(|| (item.parent(), item.first_child(), item.next_sibling()));
-    check_none(|| (item.prev_sibling(), item.has_attribute("HREF")));
+    check_none(|| (item.prev_sibling(), item.has_attr("HREF")));
     check_none(|| (item.ancestors().count(), item.descendants().count()));
     check_none(|| (document.nodes().len(), document.is_quirks()));
-    assert_eq!(item.text().as_deref(), Ok("x & y"));
+    assert!(item.text().eq(["x & y"]));
 }

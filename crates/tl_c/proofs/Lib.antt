@@ -9,3 +9,4 @@ pub mod SafePages
 pub mod Selectors
 mod Texts
 mod Values
+pub mod Joined

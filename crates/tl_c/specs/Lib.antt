@@ -1,5 +1,7 @@
 pub mod Css
 pub mod Edits
+pub mod Extracts
+pub mod EncodedPages
 pub mod LentLists
 pub mod Nodes
 pub mod Owned
@@ -9,3 +11,4 @@ pub mod Puts
 pub mod Queries
 pub mod Readings
 pub mod SafePages
+pub mod Whole

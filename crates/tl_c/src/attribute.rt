@@ -53,9 +53,9 @@ pub(crate) fn value<'h>(
     value_at(&own.tree, node as usize, key)
 }
 
-// Writes a number in 8 bytes, the lowest first.
+/// Writes a number in 8 bytes, the lowest first.
 #[tactic(auto, unfolding(crate::specs::Nodes::number_bytes))]
-fn write_number(number: usize, out: &mut Vec<u8>) -> Result<(), AllocError>
+pub(crate) fn write_number(number: usize, out: &mut Vec<u8>) -> Result<(), AllocError>
     ensures { OnOk result (out.new.items ≡ out.old.items ++ number_bytes number) }
 {
     out.extend_from_slice(&number.to_le_bytes())

@@ -1,5 +1,6 @@
 //! What is written of the document that is held, if one is.
 ghost use Rattle.std.specs.Prelude.{◌≡◌, ◌++◌, false, Err, None, OnOk, option_map};
+ghost use Rattle.tl_c.specs.Extracts.{pretty_in};
 ghost use Rattle.tl_c.specs.Queries.{AreTrees, outcome_of_some, tree_in};
 ghost use Rattle.tl_c.specs.Nodes.{markup_at, markup_in, text_at, text_in};
 ghost use Rattle.tl_dom_spec.specs.HtmlForest.{HtmlForest};
@@ -12,7 +13,7 @@ ghost use Rattle.tl_tree.specs.TreeView.{rows_in};
 use crate::held::tree_at;
 use crate::parsed_page::ParsedPage;
 use std::alloc::{AllocError, Global};
-use tl_html_print::{write_document, write_inner, write_outer};
+use tl_html_print::{write_document, write_inner, write_outer, write_pretty};
 use tl_page::Failure;
 use tl_tree::Tree;
 
@@ -113,5 +114,25 @@ pub(crate) fn document_markup(
     };
     let mut out = Vec::new(alloc);
     write_document(&own.tree, false, &mut out)?;
+    Ok(out)
+}
+
+/// The whole page as markup, with a tag on each line.
+pub(crate) fn pretty_markup(
+    alloc: Global,
+    held: &Option<Box<ParsedPage>>,
+) -> Result<Vec<u8>, Failure>
+    ensures gives { let parsed = option_map (λ own. own.value) held.now in
+        (trees : HtmlForest) → AreTrees parsed trees →
+        Gives (λ bytes. bytes.items) (pretty_in trees parsed) result }
+
+    // Without a document it takes no memory.
+    ensures none { option_map (λ own. own.value) held.now ≡ None → result ≡ Err Refused }
+{
+    let Some(own) = held else {
+        return Err(Failure::Refused);
+    };
+    let mut out = Vec::new(alloc);
+    write_pretty(&own.tree, false, &mut out)?;
     Ok(out)
 }

@@ -6,8 +6,8 @@ ghost use Rattle.tl_c.specs.Nodes.{kind_in, name_in, namespace_in, number_of_kin
 use crate::parsed_page::ParsedPage;
 use tl_tree::{Kind, Namespace, Source};
 
-// The number of a kind in `tl.h`.
-fn number_of_kind(kind: Option<Kind>) -> u8
+/// The number of a kind in `tl.h`.
+pub(crate) fn number_of_kind(kind: Option<Kind>) -> u8
     ensures { result ≡ number_of_kind kind }
 {
     match kind {
@@ -20,8 +20,8 @@ fn number_of_kind(kind: Option<Kind>) -> u8
     }
 }
 
-// The number of a namespace in `tl.h`.
-fn number_of_namespace(namespace: Option<Namespace>) -> u8
+/// The number of a namespace in `tl.h`.
+pub(crate) fn number_of_namespace(namespace: Option<Namespace>) -> u8
     ensures { result ≡ number_of_namespace namespace }
 {
     match namespace {

@@ -1,0 +1,64 @@
+"""Each row of COMING_FROM.md: what tlhtml answers, and what BeautifulSoup and lxml do, where they are there."""
+import os
+import re
+import unittest
+from urllib.parse import urljoin
+
+import tlhtml
+
+try:
+    import bs4
+    import html5lib
+    import soupsieve
+except ImportError:
+    bs4 = None
+try:
+    import cssselect
+    import lxml.etree
+    import lxml.html
+    import lxml.html.clean
+except ImportError:
+    lxml = None
+
+DOCUMENT = os.path.join(os.path.dirname(os.path.dirname(os.path.abspath(__file__))), "COMING_FROM.md")
+
+
+def rows(text):
+    """The expressions of the rows of the table that has four columns; None where a cell has none."""
+    found = []
+    for line in text.splitlines():
+        cells = [it.strip() for it in line.strip("| ").split(" | ")]
+        if len(cells) == 4 and not line.startswith("|---") and cells[0]:
+            found.append([cells[0], *(None if it == "-" else it.strip("`") for it in cells[1:])])
+    return found[1:] if found and found[0][0] == "`tlhtml`" else found
+
+
+class Rows(unittest.TestCase):
+    def test_each(self):
+        with open(DOCUMENT, encoding="utf-8") as file:
+            text = file.read()
+        page = re.search(r"```html\n(.*?)```", text, re.DOTALL)[1]
+        names = {"tlhtml": tlhtml, "document": tlhtml.Document(page), "re": re, "urljoin": urljoin}
+        others = [None, None]
+        if bs4:
+            names |= {"bs4": bs4, "soupsieve": soupsieve}
+            others[0] = bs4.BeautifulSoup(page, "html5lib")
+        if lxml:
+            names |= {"lxml": lxml}
+            others[1] = lxml.html.document_fromstring(page)
+        names |= {"soup": others[0], "tree": others[1]}
+        tried = 0
+        for what, own, *cells in rows(text):
+            wanted = eval(own, names)
+            for there, cell in zip(others, cells):
+                if there is not None and cell:
+                    with self.subTest(what):
+                        self.assertEqual(eval(cell, names), wanted)
+                        tried += 1
+        self.assertEqual(len(rows(text)), 33)
+        if all(it is not None for it in others):
+            self.assertEqual(tried, 62)
+
+
+if __name__ == "__main__":
+    unittest.main()

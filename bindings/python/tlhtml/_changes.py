@@ -1,0 +1,65 @@
+"""Pages changed in their own bytes."""
+from __future__ import annotations
+
+import ctypes
+from typing import Callable
+
+from ._calls import DONE, characters, error_of, lib, page_error_of, room_of, utf8
+from ._errors import ChangeError, SelectorError
+from ._selectors import Selector, selector_bytes
+
+
+def set_attribute(html: str, selector: str | Selector, key: str, value: str) -> str:
+    """The page with a key set in the start tag of each element where a selector holds. No other byte is changed: not the doctype, quotes,
+    blanks, nor what browsers mend. Where the selector holds nowhere it is the page."""
+    return _patched(0, html, selector, key, value)
+
+
+def unset_attribute(html: str, selector: str | Selector, key: str) -> str:
+    """The page with a key unset there."""
+    return _patched(1, html, selector, key, "")
+
+
+def _patched(edit: int, html: str, selector: str | Selector, key: str, value: str) -> str:
+    # (keys are in lower case)
+    return _changed(lib.tl_patch_css, [edit], html, selector, utf8(key, "a key").lower(), utf8(value, "a value"))
+
+
+_EDITS = ("rename", "remove", "unwrap", "replace", "fill", "prepend", "append", "before", "after")
+
+
+def edit(
+    html: str, selector: str | Selector, what: str, *, name: str | None = None, text: str | None = None, markup: str | None = None
+) -> str:
+    """The page with each element changed where a selector holds. `what` is "rename" with a name, "remove", "unwrap", or one of "replace",
+    "fill", "prepend", "append", "before" and "after" with a text, which is escaped, or with markup. No other byte is changed, and what
+    is read of the answer is the page with just that changed. Where the selector holds nowhere it is the page.
+
+    >>> edit("<!DOCTYPE html PUBLIC 'x'><P>one <B>two</B>", "b", "fill", text="3 < 4")
+    "<!DOCTYPE html PUBLIC 'x'><P>one <B>3 &lt; 4</B>"
+    """
+    if what not in _EDITS:
+        raise ValueError(f"no edit: {what!r} is none of {', '.join(_EDITS)}")
+    wanted = {"rename": (name,), "remove": (), "unwrap": ()}.get(what, (text, markup))
+    given = [it for it in (name, text, markup) if it is not None]
+    if len(given) != bool(wanted) or any(it not in wanted for it in given):
+        raise ValueError(f"{what!r} takes {'a name' if what == 'rename' else 'a text or markup' if wanted else 'nothing else'}")
+    numbers = [_EDITS.index(what), int(markup is not None)]
+    content = utf8(given[0], "what is put") if given else b""
+    # (names are in lower case)
+    return _changed(lib.tl_edit_css, numbers, html, selector, content.lower() if what == "rename" else content)
+
+
+def _changed(call: Callable[..., int], numbers: list[int], html: str, selector: str | Selector, *texts: bytes) -> str:
+    """What a call makes of a page and where a selector holds."""
+    page, asked = utf8(html, "a page"), selector_bytes(selector)
+    words = [*numbers, *(word for it in (asked, *texts, page) for word in (it, len(it)))]
+    room, place, cause = room_of(page), ctypes.c_size_t(), ctypes.c_uint8()
+    status = room.fill(call, *words, behind=(place, cause))
+    if cause.value >= 16:
+        raise ChangeError(characters(page, place.value), cause.value)
+    if cause.value:
+        raise SelectorError(str(selector), characters(asked, place.value), cause.value)
+    if status != DONE:
+        raise page_error_of(status, page)
+    return room.text()

@@ -1,0 +1,7 @@
+use Rattle.std.proofs.Common.{◌≡◌}
+use Rattle.tl_tree.specs.TreeView.{rows_in}
+use Rattle.tl_c.specs.Whole.{numbers_before}
+use Rattle.tl_c.proofs.whole.numbers_of.Given as goal
+
+abbrev pub invariant-loop-node : goal.invariant-loop-node
+invariant-loop-node l = l.numbers.items ≡ numbers_before (rows_in l.tree) l.node
