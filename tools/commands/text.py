@@ -7,13 +7,15 @@
   whether the code that they show stands in a source; whether the paths, commands and names between backticks are there.
 - Character references: whether each of the 2,231 is as Python has it (tools/references.py).
 - The README of each crate: whether there is one, and what it names is there (tools/readmes.py).
+- The three languages: whether C, Rust and Python have the calls that bindings/calls.txt lists and no other, and whether docs/LIBRARY.md
+  shows that list (tools/languages.py).
 - Layout: whether each crate's sources are laid out as `rt fmt` lays them out.
 
 A new row of a document goes into tests/documents.t, and ./x runs tries it.
 """
 from concurrent.futures import ThreadPoolExecutor
 
-from .. import documents, readmes, references
+from .. import documents, languages, readmes, references
 from ..running import run
 from ..workspace import Workspace, cores
 
@@ -35,7 +37,7 @@ def other_layouts(workspace):
 
 def check():
     """Says what is wrong. Whether nothing is."""
-    found = [*documents.faults(), *readmes.faults(), *references.faults(), *other_layouts(Workspace())]
+    found = [*documents.faults(), *readmes.faults(), *references.faults(), *languages.faults(), *other_layouts(Workspace())]
     for it in found:
         print(f"text: {it}")
     if not found:
