@@ -63,7 +63,7 @@ def answered(program, selector, files):
     words = [program, "select", "-n", "--", selector, *files]
     run = subprocess.run(words, stdout=subprocess.PIPE, stderr=subprocess.PIPE, check=False)
     if run.returncode == 2:
-        at = re.match(rb"tl: no selector: at byte (\d+): ", run.stderr)
+        at = re.match(rb"tl: invalid selector: at byte (\d+): ", run.stderr)
         return int(at[1]) if at else run.stderr
     if run.returncode not in (0, 1) or run.stderr:
         return run.stderr or run.returncode

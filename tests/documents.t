@@ -94,7 +94,9 @@ Selectors:
   $ tl select -a src 'p > img[src$=".png"]' shelf
   d.png
   $ tl select 'p:hover' none none
-  tl: no selector: at byte 2: no such pseudo-class: `hover` (a page has no states) (err)
+  tl: invalid selector: at byte 2: no such pseudo-class: `hover` (a page has no states) (err)
+    p:hover (err)
+      ^ (err)
   [2]
 
 README's edit:

@@ -24,10 +24,10 @@ Parameters of a URL's query go by their names, as they are written; the rest sta
   $ tl set a href --drop-query none links >/dev/null
   [1]
   $ tl set a href --drop-query 'a*b*' links
-  tl: no names, in which one * may stand: 'a*b*' (err)
+  tl: invalid pattern, which may have one * in it: 'a*b*' (err)
   [2]
   $ tl set a href --drop-query '' links
-  tl: no names, in which one * may stand: '' (err)
+  tl: invalid pattern, which may have one * in it: '' (err)
   [2]
 
 URLs are made absolute by the URL of the page and its base; those that need no base stay as they are, and so does what is no URL.
@@ -52,7 +52,7 @@ URLs are made absolute by the URL of the page and its base; those that need no b
   $ printf '<svg><use xlink:href=a.svg#b /></svg>' | tl set use xlink:href --base https://a.org/
   <svg><use xlink:href="https://a.org/a.svg#b" /></svg> (no-eol)
   $ tl set a href --base a.org page
-  tl: no URL: a.org: relative URL without a base (err)
+  tl: invalid URL: a.org: relative URL without a base (err)
   [2]
   $ tl set a href --base https://a.org --drop-query x page 2>&1 | head -1
   error: the argument '--base <URL>' cannot be used with '--drop-query <GLOB>'
@@ -208,8 +208,8 @@ A text may come from a file, or from standard input; one that begins with @ has 
   tl: wrong: no UTF-8 at byte 0 (err)
   [2]
   $ printf x | tl append p @- -
-  tl: standard input is no page where it is what is put (err)
+  tl: standard input can't be both the page and what is put in (err)
   [2]
   $ printf x | tl append p @-
-  tl: standard input is no page where it is what is put (err)
+  tl: standard input can't be both the page and what is put in (err)
   [2]

@@ -126,29 +126,29 @@ What changes is told; a file whose bytes stay isn't written, and where nothing c
 One option says how, and none stands beside a value that is said: the first word behind the key is a page then.
 
   $ tl set a href
-  tl: no value: say VALUE, or an option that makes it (err)
+  tl: VALUE is missing: give it, or an option that makes it (err)
   [2]
   $ tl set a href --prefix x --suffix y links 2>&1 | head -1
   error: the argument '--prefix <TEXT>' cannot be used with '--suffix <TEXT>'
   $ tl set a href --literal links 2>&1 | head -1
   error: the following required arguments were not provided:
   $ tl set a class --add-word 'a b' links
-  tl: no word of a value: 'a b' (err)
+  tl: not one word: 'a b' (err)
   [2]
   $ tl set a class --remove-word '' links
-  tl: no word of a value: '' (err)
+  tl: not one word: '' (err)
   [2]
   $ tl set a href --replace '(' x links
-  tl: no regular expression: (: regex parse error at 0..1: unclosed group (err)
+  tl: invalid regular expression: (: regex parse error at 0..1: unclosed group (err)
   [2]
   $ tl set a href --literal --replace '' x links
-  tl: no text to be replaced: an empty word (err)
+  tl: --replace: the text to replace is empty (err)
   [2]
   $ tl set a title --from 'a b' links
-  tl: no key: a b (err)
+  tl: invalid attribute name: a b (err)
   [2]
   $ tl set -i a href --prefix x
-  tl: standard input has no file to be written (err)
+  tl: -i needs files: standard input can't be edited in place (err)
   [2]
   $ tl set a href --prefix x links - <links | wc -l
   4
@@ -207,7 +207,7 @@ Where a link has the name of the backup, what it leads to keeps its bytes, also 
 An empty suffix would be the page.
 
   $ tl set --backup '' p k v second
-  tl: no suffix of a backup: an empty word (err)
+  tl: --backup: the suffix is empty (err)
   [2]
   $ cat second
   <p k="x">1 (no-eol)
@@ -236,7 +236,7 @@ A failed write leaves the old page, and nothing beside it.
   [4]
   $ mkdir folder
   $ tl set -i a k v folder
-  tl: folder: a folder; folder/*.html names the pages in it (err)
+  tl: folder: is a directory; folder/*.html names the pages in it (err)
   [4]
 
 Elements get another name, or go, or their tags alone.
@@ -545,13 +545,13 @@ What is refused.
   tl: break: the element at byte 0 can't be changed so (err)
   [2]
   $ tl rename p 'a b' break
-  tl: no name: a b (err)
+  tl: invalid element name: a b (err)
   [2]
   $ tl rename p '' break
-  tl: no name:\x20 (esc) (err)
+  tl: invalid element name:\x20 (esc) (err)
   [2]
   $ tl rename p ' b ' break
-  tl: no name:  b\x20 (esc) (err)
+  tl: invalid element name:  b\x20 (esc) (err)
   [2]
   $ tl append --html p '<!-- ' break
   tl: break: the page would be read otherwise, for the element at byte 0 (err)
@@ -572,32 +572,38 @@ What is refused.
   tl: -: the element that is put in at byte 12 has no tag (err)
   [2]
   $ tl remove 'b[' break
-  tl: no selector: at byte 2: a name is missing (err)
+  tl: invalid selector: at byte 2: a name is missing (err)
+    b[ (err)
+      ^ (err)
   [2]
   $ tl set -i 'p[' k v
-  tl: no selector: at byte 2: a name is missing (err)
+  tl: invalid selector: at byte 2: a name is missing (err)
+    p[ (err)
+      ^ (err)
   [2]
   $ tl set -i 'p[' k v missing
-  tl: no selector: at byte 2: a name is missing (err)
+  tl: invalid selector: at byte 2: a name is missing (err)
+    p[ (err)
+      ^ (err)
   [2]
   $ tl set -i p 'k=' v <break
-  tl: no key: k= (err)
+  tl: invalid attribute name: k= (err)
   [2]
   $ tl remove -i b <break
-  tl: standard input has no file to be written (err)
+  tl: -i needs files: standard input can't be edited in place (err)
   [2]
   $ cat open
   <div><q>x</div>y (no-eol)
 
   $ tl set -i a k v <page
-  tl: standard input has no file to be written (err)
+  tl: -i needs files: standard input can't be edited in place (err)
   [2]
   $ tl set --backup .old a k v page -
-  tl: standard input has no file to be written (err)
+  tl: -i needs files: standard input can't be edited in place (err)
   [2]
   $ printf '<a>\377' >bytes
   $ tl set -i a k v bytes
-  tl: bytes: no UTF-8 at byte 3; --encoding says what a page is in (err)
+  tl: bytes: no UTF-8 at byte 3; --encoding names the encoding (err)
   [2]
   $ od -An -c bytes | tr -d ' \n'
   <a>377 (no-eol)
@@ -617,10 +623,10 @@ What is refused.
   $ printf '<meta charset=utf-8><p>a' | tl set p k é
   <meta charset=utf-8><p k="é">a (no-eol)
   $ tl set a 'k=' v page
-  tl: no key: k= (err)
+  tl: invalid attribute name: k= (err)
   [2]
   $ tl set a '' v page
-  tl: no key:\x20 (esc) (err)
+  tl: invalid attribute name:\x20 (esc) (err)
   [2]
   $ printf '<p>a</p></p>' | tl set p k v
   tl: -: the element that is put in at byte 12 has no tag (err)

@@ -9,10 +9,10 @@ the first such byte; one in windows-1252 (and latin1, which is the same) has `é
   $ printf '\351<meta charset=latin1>' | tl text --encoding auto
   é (no-eol)
   $ printf '\357\273\277\351<meta charset=latin1>' | tl text --strict
-  tl: -: no UTF-8 at byte 3; --encoding says what a page is in (err)
+  tl: -: no UTF-8 at byte 3; --encoding names the encoding (err)
   [2]
   $ printf '\351' | tl text --strict
-  tl: -: no UTF-8 at byte 0; --encoding says what a page is in (err)
+  tl: -: no UTF-8 at byte 0; --encoding names the encoding (err)
   [2]
   $ printf '\351<meta charset=latin1>' | tl text
   é (no-eol)
@@ -23,10 +23,10 @@ the first such byte; one in windows-1252 (and latin1, which is the same) has `é
   $ printf '\351<meta charset=us-ascii />' | tl text
   é (no-eol)
   $ printf '\351<meta charset=us-ascii/>' | tl text --strict
-  tl: -: no UTF-8 at byte 0; --encoding says what a page is in (err)
+  tl: -: no UTF-8 at byte 0; --encoding names the encoding (err)
   [2]
   $ printf '\351<meta charset=utf-8>' | tl text --strict
-  tl: -: no UTF-8 at byte 0; --encoding says what a page is in (err)
+  tl: -: no UTF-8 at byte 0; --encoding names the encoding (err)
   [2]
   $ printf '\351<meta name=x><meta charset=latin1>' | tl text
   é (no-eol)
@@ -35,29 +35,29 @@ the first such byte; one in windows-1252 (and latin1, which is the same) has `é
   $ printf '\351<meta content="the charset is" charset=latin1>' | tl text
   é (no-eol)
   $ printf '\351<p charset=latin1>' | tl text --strict
-  tl: -: no UTF-8 at byte 0; --encoding says what a page is in (err)
+  tl: -: no UTF-8 at byte 0; --encoding names the encoding (err)
   [2]
   $ printf '\351<meta name=x>charset=latin1' | tl text --strict
-  tl: -: no UTF-8 at byte 0; --encoding says what a page is in (err)
+  tl: -: no UTF-8 at byte 0; --encoding names the encoding (err)
   [2]
   $ printf '\351<meta charset' | tl text --strict
-  tl: -: no UTF-8 at byte 0; --encoding says what a page is in (err)
+  tl: -: no UTF-8 at byte 0; --encoding names the encoding (err)
   [2]
   $ printf '\351<meta charset=latin1' | tl text --strict
-  tl: -: no UTF-8 at byte 0; --encoding says what a page is in (err)
+  tl: -: no UTF-8 at byte 0; --encoding names the encoding (err)
   [2]
   $ printf '\351<meta charset=latin1 <p>' | tl text
   é (no-eol)
   $ printf '\351<meta charset=utf-16>' | tl text --strict
-  tl: -: no UTF-8 at byte 0; --encoding says what a page is in (err)
+  tl: -: no UTF-8 at byte 0; --encoding names the encoding (err)
   [2]
   $ printf '\351<meta charset=x-user-defined>' | tl text
   é (no-eol)
   $ printf '\351<meta charset="">' | tl text --strict
-  tl: -: no UTF-8 at byte 0; --encoding says what a page is in (err)
+  tl: -: no UTF-8 at byte 0; --encoding names the encoding (err)
   [2]
   $ printf '\351<meta charset=>' | tl text --strict
-  tl: -: no UTF-8 at byte 0; --encoding says what a page is in (err)
+  tl: -: no UTF-8 at byte 0; --encoding names the encoding (err)
   [2]
   $ printf '\351<meta charset=nope><meta charset=latin1>' | tl text
   é (no-eol)
@@ -74,7 +74,7 @@ the first such byte; one in windows-1252 (and latin1, which is the same) has `é
   $ printf '\351<meta charset=latin1 charset=koi8-r>' | tl text
   é (no-eol)
   $ printf '\351<meta charset=nope charset=latin1>' | tl text --strict
-  tl: -: no UTF-8 at byte 0; --encoding says what a page is in (err)
+  tl: -: no UTF-8 at byte 0; --encoding names the encoding (err)
   [2]
   $ printf '\351<metadata charset=koi8-r><meta charset=latin1>' | tl text
   é (no-eol)
@@ -89,7 +89,7 @@ the first such byte; one in windows-1252 (and latin1, which is the same) has `é
   $ printf '\351<meta http-equiv=content-type content="charset charset = \047latin1\047 ">' | tl text
   é (no-eol)
   $ printf '\351<meta http-equiv=content-type content="charset=\047latin1">' | tl text --strict
-  tl: -: no UTF-8 at byte 0; --encoding says what a page is in (err)
+  tl: -: no UTF-8 at byte 0; --encoding names the encoding (err)
   [2]
   $ printf '\351<meta http-equiv=content-type content=charset=latin1;x>' | tl text
   é (no-eol)
@@ -98,7 +98,7 @@ the first such byte; one in windows-1252 (and latin1, which is the same) has `é
   $ printf '\351<!--><meta charset=latin1>-->' | tl text
   é--> (no-eol)
   $ printf '\351<!-- <meta charset=latin1>' | tl text --strict
-  tl: -: no UTF-8 at byte 0; --encoding says what a page is in (err)
+  tl: -: no UTF-8 at byte 0; --encoding names the encoding (err)
   [2]
   $ printf '\351<a title="<meta charset=koi8-r>"><meta charset=latin1>' | tl text
   é (no-eol)
@@ -109,12 +109,12 @@ the first such byte; one in windows-1252 (and latin1, which is the same) has `é
   $ printf '<?xml version="1.0" encoding="iso-8859-1"?><p>\351' | tl text
   é (no-eol)
   $ printf '<?xml version=\0471.0\047 encoding=\047utf-8\047?><p>\351' | tl text --strict
-  tl: -: no UTF-8 at byte 41; --encoding says what a page is in (err)
+  tl: -: no UTF-8 at byte 41; --encoding names the encoding (err)
   [2]
   $ printf '<?xml version="1.0" encoding="latin1"?><p>café' | tl text
   cafÃ© (no-eol)
   $ printf '\357\273\277<?xml version="1.0" encoding="latin1"?><p>\351' | tl text --strict
-  tl: -: no UTF-8 at byte 45; --encoding says what a page is in (err)
+  tl: -: no UTF-8 at byte 45; --encoding names the encoding (err)
   [2]
   $ printf '<?xml encoding\000\013 = \t\047latin1\047?>\351' | tl text
   é (no-eol)
@@ -127,66 +127,66 @@ the first such byte; one in windows-1252 (and latin1, which is the same) has `é
   $ printf '<?xml coding=\047koi8-r\047 encoding=\047latin1\047?>\351' | tl text
   é (no-eol)
   $ printf '<?xml version=\0471.0\047 encoding=\047utf-16\047?>\351' | tl text --strict
-  tl: -: no UTF-8 at byte 39; --encoding says what a page is in (err)
+  tl: -: no UTF-8 at byte 39; --encoding names the encoding (err)
   [2]
   $ printf '<?xml version=\0471.0\047 encoding=\047nope\047?>\351' | tl text --strict
-  tl: -: no UTF-8 at byte 37; --encoding says what a page is in (err)
+  tl: -: no UTF-8 at byte 37; --encoding names the encoding (err)
   [2]
   $ printf '<?xml version=\0471.0\047 encoding=\047\047?>\351' | tl text --strict
-  tl: -: no UTF-8 at byte 33; --encoding says what a page is in (err)
+  tl: -: no UTF-8 at byte 33; --encoding names the encoding (err)
   [2]
   $ printf '<?xml version=\0471.0\047 encoding=\047 latin1\047?>\351' | tl text --strict
-  tl: -: no UTF-8 at byte 40; --encoding says what a page is in (err)
+  tl: -: no UTF-8 at byte 40; --encoding names the encoding (err)
   [2]
   $ printf '<?xml version=\0471.0\047 encoding=\047latin1\n\047?>\351' | tl text --strict
-  tl: -: no UTF-8 at byte 40; --encoding says what a page is in (err)
+  tl: -: no UTF-8 at byte 40; --encoding names the encoding (err)
   [2]
   $ printf '<?xml version=\0471.0\047 encoding=\047latin1\000\047?>\351' | tl text --strict
-  tl: -: no UTF-8 at byte 40; --encoding says what a page is in (err)
+  tl: -: no UTF-8 at byte 40; --encoding names the encoding (err)
   [2]
   $ printf '<?xml version=\0471.0\047 encoding=latin1?>\351' | tl text --strict
-  tl: -: no UTF-8 at byte 37; --encoding says what a page is in (err)
+  tl: -: no UTF-8 at byte 37; --encoding names the encoding (err)
   [2]
   $ printf '<?xml version=\0471.0\047 encoding=\047latin1"?>\351' | tl text --strict
-  tl: -: no UTF-8 at byte 39; --encoding says what a page is in (err)
+  tl: -: no UTF-8 at byte 39; --encoding names the encoding (err)
   [2]
   $ printf '<?xml version=\0471.0\047 encoding \047latin1\047?>\351' | tl text --strict
-  tl: -: no UTF-8 at byte 39; --encoding says what a page is in (err)
+  tl: -: no UTF-8 at byte 39; --encoding names the encoding (err)
   [2]
   $ printf '<?xml version=\0471.0\047 encoding\240=\047latin1\047?>\351' | tl text --strict
-  tl: -: no UTF-8 at byte 28; --encoding says what a page is in (err)
+  tl: -: no UTF-8 at byte 28; --encoding names the encoding (err)
   [2]
   $ printf '<?xml version=\0471.0\047 encoding: encoding=\047latin1\047?>\351' | tl text --strict
-  tl: -: no UTF-8 at byte 49; --encoding says what a page is in (err)
+  tl: -: no UTF-8 at byte 49; --encoding names the encoding (err)
   [2]
   $ printf '<?xml version=\0471.0\047 Encoding=\047latin1\047?>\351' | tl text --strict
-  tl: -: no UTF-8 at byte 39; --encoding says what a page is in (err)
+  tl: -: no UTF-8 at byte 39; --encoding names the encoding (err)
   [2]
   $ printf '<?XML version=\0471.0\047 encoding=\047latin1\047?>\351' | tl text --strict
-  tl: -: no UTF-8 at byte 39; --encoding says what a page is in (err)
+  tl: -: no UTF-8 at byte 39; --encoding names the encoding (err)
   [2]
   $ printf '<? xml version=\0471.0\047 encoding=\047latin1\047?>\351' | tl text --strict
-  tl: -: no UTF-8 at byte 40; --encoding says what a page is in (err)
+  tl: -: no UTF-8 at byte 40; --encoding names the encoding (err)
   [2]
   $ printf '\n<?xml version=\0471.0\047 encoding=\047latin1\047?>\351' | tl text --strict
-  tl: -: no UTF-8 at byte 40; --encoding says what a page is in (err)
+  tl: -: no UTF-8 at byte 40; --encoding names the encoding (err)
   [2]
   $ printf '<?xml version=\0471.0\047 encoding=\047latin1\047?\351' | tl text --strict
-  tl: -: no UTF-8 at byte 38; --encoding says what a page is in (err)
+  tl: -: no UTF-8 at byte 38; --encoding names the encoding (err)
   [2]
   $ printf '<?xml version=\0471.0\047 encoding\351>' | tl text --strict
-  tl: -: no UTF-8 at byte 28; --encoding says what a page is in (err)
+  tl: -: no UTF-8 at byte 28; --encoding names the encoding (err)
   [2]
   $ printf '<?xml \351>encoding' | tl text --strict
-  tl: -: no UTF-8 at byte 6; --encoding says what a page is in (err)
+  tl: -: no UTF-8 at byte 6; --encoding names the encoding (err)
   [2]
   $ printf '<?xml \351>encoding=' | tl text --strict
-  tl: -: no UTF-8 at byte 6; --encoding says what a page is in (err)
+  tl: -: no UTF-8 at byte 6; --encoding names the encoding (err)
   [2]
   $ printf '<?xml version=\0471.0\047 encoding=\047koi8-r\047?><meta charset=latin1>\351' | tl text
   é (no-eol)
   $ printf '<?xml version=\0471.0\047 encoding=\047koi8-r\047?><meta charset=utf-8>\351' | tl text --strict
-  tl: -: no UTF-8 at byte 59; --encoding says what a page is in (err)
+  tl: -: no UTF-8 at byte 59; --encoding names the encoding (err)
   [2]
   $ printf '<?xml version=\0471.0\047 encoding=\047latin1\047?><meta charset=nope>\351' | tl text
   é (no-eol)
@@ -238,10 +238,10 @@ it is ASCII.
   $ printf '<meta charset=iso-2022-jp>\033(I1\033$' | tl text
   ｱ�､ (no-eol)
   $ printf 'a\201\377<meta charset=sjis>' | tl text --strict
-  tl: -: no character at byte 1; --encoding says what a page is in (err)
+  tl: -: no character at byte 1; --encoding names the encoding (err)
   [2]
   $ printf '<meta charset=gb18030>\2010\201' | tl text --strict
-  tl: -: no character at byte 22; --encoding says what a page is in (err)
+  tl: -: no character at byte 22; --encoding names the encoding (err)
   [2]
 
 Other encodings, and UTF-16, by its mark or its declaration.
@@ -255,7 +255,7 @@ Other encodings, and UTF-16, by its mark or its declaration.
   $ printf '\351<meta charset=koi8-u><meta charset=latin1>' | tl text
   И (no-eol)
   $ printf '\351<meta charset=utf-16be><meta charset=latin1>' | tl text --strict
-  tl: -: no UTF-8 at byte 0; --encoding says what a page is in (err)
+  tl: -: no UTF-8 at byte 0; --encoding names the encoding (err)
   [2]
   $ printf '\351<meta http-equiv=content-type content="text/html; charset=iso-8859-2">' | tl text
   é (no-eol)
@@ -336,10 +336,10 @@ The labels are those of the standard.
   $ printf 'caf\303\251' | tl text --encoding Shift_JIS
   cafﾃｩ (no-eol)
   $ printf 'caf\303\251' | tl text --encoding utf-7
-  tl: no label of an encoding: utf-7 (err)
+  tl: unknown encoding: utf-7 (err)
   [2]
   $ printf 'caf\303\251' | tl text --encoding ''
-  tl: no label of an encoding:\x20 (esc) (err)
+  tl: unknown encoding:\x20 (esc) (err)
   [2]
 
 Bytes, and the text that they stand for.
@@ -478,10 +478,10 @@ Bytes that are wrong are read as U+FFFD: of UTF-8 each longest run that begins a
 With `--strict` a page with such bytes is refused, and what is wrong said by its place.
 
   $ tl links --strict wrong.html
-  tl: wrong.html: no UTF-8 at byte 8; --encoding says what a page is in (err)
+  tl: wrong.html: no UTF-8 at byte 8; --encoding names the encoding (err)
   [2]
   $ tl table --strict wrong.html
-  tl: wrong.html: no UTF-8 at byte 8; --encoding says what a page is in (err)
+  tl: wrong.html: no UTF-8 at byte 8; --encoding names the encoding (err)
   [2]
   $ tl outline --strict --encoding utf-8 wrong.html
   tl: wrong.html: no UTF-8 at byte 8 (err)
@@ -490,19 +490,19 @@ With `--strict` a page with such bytes is refused, and what is wrong said by its
   tl: -: no character at byte 1 (err)
   [2]
   $ printf '<meta charset=windows-1253>a\252b' | tl text --strict
-  tl: -: no character at byte 28; --encoding says what a page is in (err)
+  tl: -: no character at byte 28; --encoding names the encoding (err)
   [2]
   $ printf '\376\377\000a\330\075\000a' | tl text --strict
-  tl: -: no character at byte 4; --encoding says what a page is in (err)
+  tl: -: no character at byte 4; --encoding names the encoding (err)
   [2]
   $ printf '\376\377\000a\336\000\330\075' | tl text --strict
-  tl: -: no character at byte 4; --encoding says what a page is in (err)
+  tl: -: no character at byte 4; --encoding names the encoding (err)
   [2]
   $ printf '\376\377\000a\330\075' | tl text --strict
-  tl: -: no character at byte 4; --encoding says what a page is in (err)
+  tl: -: no character at byte 4; --encoding names the encoding (err)
   [2]
   $ printf '\376\377\000a\000' | tl text --strict
-  tl: -: no character at byte 4; --encoding says what a page is in (err)
+  tl: -: no character at byte 4; --encoding names the encoding (err)
   [2]
   $ printf '\376\377\330\075\336\000\377\375' | tl text --strict
   😀� (no-eol)
@@ -546,7 +546,7 @@ as the same tree by it. A page with bytes that are wrong isn't changed.
   $ printf '<p>\351' | tl set --encoding koi8-r p k 'я' | LC_ALL=C sed -n l
   <p k="\321">\351$
   $ printf '<p>\351' | tl set --encoding nope p k v
-  tl: no label of an encoding: nope (err)
+  tl: unknown encoding: nope (err)
   [2]
   $ printf '\377\376<\000p\000>\000\351\000' | tl set p k '😀' | od -An -tx1
    ff fe 3c 00 70 00 20 00 6b 00 3d 00 22 00 3d d8
@@ -584,13 +584,13 @@ as the same tree by it. A page with bytes that are wrong isn't changed.
   tl: -: what is put is no ASCII, and the page says another encoding than UTF-8 (err)
   [2]
   $ printf '<p>\377' | tl set p k v
-  tl: -: no UTF-8 at byte 3; --encoding says what a page is in (err)
+  tl: -: no UTF-8 at byte 3; --encoding names the encoding (err)
   [2]
   $ printf '<meta charset=windows-1253><p>\252' | tl set p k v
-  tl: -: no character at byte 30; --encoding says what a page is in (err)
+  tl: -: no character at byte 30; --encoding names the encoding (err)
   [2]
   $ printf '\376\377\000<\000p\000>\330\075' | tl set p k v
-  tl: -: no character at byte 8; --encoding says what a page is in (err)
+  tl: -: no character at byte 8; --encoding names the encoding (err)
   [2]
   $ printf '<p>a' | tl set --strict p k v
   error: unexpected argument '--strict' found (err)

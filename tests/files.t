@@ -199,7 +199,7 @@ A page that may not be read, and one in a folder that may not be written, are to
   $ sh plainly tl select -c p closed kept third
   third:1
   tl: closed: Permission denied (os error 13) (err)
-  tl: kept: a folder; kept/*.html names the pages in it (err)
+  tl: kept: is a directory; kept/*.html names the pages in it (err)
   [4]
   $ sh plainly tl text closed third
   third:1
@@ -256,33 +256,33 @@ What is no page is named by its first bytes, and of a folder or an address in th
 
   $ printf '<p>x' | gzip -c >page.html.gz
   $ tl text page.html.gz
-  tl: page.html.gz: no page but gzip data; gzip -dc unpacks it (err)
+  tl: page.html.gz: not a page, but gzip data; gzip -dc unpacks it (err)
   [2]
   $ tl set p k v page.html.gz
-  tl: page.html.gz: no page but gzip data; gzip -dc unpacks it (err)
+  tl: page.html.gz: not a page, but gzip data; gzip -dc unpacks it (err)
   [2]
   $ gzip -dc page.html.gz | tl text
   x (no-eol)
   $ printf 'PK\003\004x' | tl text
-  tl: -: no page but a zip archive; unzip -p unpacks it (err)
+  tl: -: not a page, but a zip archive; unzip -p unpacks it (err)
   [2]
   $ printf '%%PDF-1.4\n' | tl text
-  tl: -: no page but a PDF; pdftohtml makes pages of it (err)
+  tl: -: not a page, but a PDF; pdftohtml makes pages of it (err)
   [2]
   $ printf '\211PNG\r\n\032\nx' | tl text
-  tl: -: no page but a picture (PNG) (err)
+  tl: -: not a page, but a picture (PNG) (err)
   [2]
   $ printf 'GIF87ax' | tl text
-  tl: -: no page but a picture (GIF) (err)
+  tl: -: not a page, but a picture (GIF) (err)
   [2]
   $ printf 'GIF89ax' | tl select p
-  tl: -: no page but a picture (GIF) (err)
+  tl: -: not a page, but a picture (GIF) (err)
   [2]
   $ printf '\377\330\377x' | tl sanitize
-  tl: -: no page but a picture (JPEG) (err)
+  tl: -: not a page, but a picture (JPEG) (err)
   [2]
   $ printf 'RIFF\000\000\000\000WEBPVP8 ' | tl links
-  tl: -: no page but a picture (WebP) (err)
+  tl: -: not a page, but a picture (WebP) (err)
   [2]
   $ printf 'RIFF\000\000\000\000WAVEfmt ' | tl text -w
   RIFFWAVEfmt
@@ -290,13 +290,13 @@ What is no page is named by its first bytes, and of a folder or an address in th
   PK (no-eol)
   $ mkdir pages
   $ tl text pages
-  tl: pages: a folder; pages/*.html names the pages in it (err)
+  tl: pages: is a directory; pages/*.html names the pages in it (err)
   [4]
   $ tl set p k v pages
-  tl: pages: a folder; pages/*.html names the pages in it (err)
+  tl: pages: is a directory; pages/*.html names the pages in it (err)
   [4]
   $ tl text https://x.org/a http://x.org/ ftp://x.org/
-  tl: https://x.org/a: no file; curl -sL 'https://x.org/a' | tl .. reads the page (err)
-  tl: http://x.org/: no file; curl -sL 'http://x.org/' | tl .. reads the page (err)
+  tl: https://x.org/a: no such file; curl -sL 'https://x.org/a' | tl .. reads a page of the web (err)
+  tl: http://x.org/: no such file; curl -sL 'http://x.org/' | tl .. reads a page of the web (err)
   tl: ftp://x.org/: No such file or directory (os error 2) (err)
   [4]

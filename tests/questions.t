@@ -309,7 +309,7 @@ A base of more than 4096 bytes counts for nothing.
 What is no URL; hosts without a base.
 
   $ tl links --base a.org led
-  tl: no URL: a.org: relative URL without a base (err)
+  tl: invalid URL: a.org: relative URL without a base (err)
   [2]
   $ tl links --internal led
   error: the following required arguments were not provided: (err)
@@ -356,7 +356,7 @@ Values of nodes in columns, of several keys, or of keys and the text.
   $ tl select -a href -a class i rows
   [1]
   $ tl select --csv a rows
-  tl: no column: say -a KEY or -t (err)
+  tl: no column: give -a NAME or -t (err)
   [2]
   $ tl select --csv --tsv -t a rows
   error: the argument '--csv' cannot be used with '--tsv' (err)
@@ -391,7 +391,7 @@ Where nodes begin. Of one that browsers put in it is where the next one does; co
   ...
   [2]
   $ tl select --where -a id -a class b places
-  tl: no place beside several columns: leave out --where (err)
+  tl: --where can't be used with several columns (err)
   [2]
 
 Tables with tabs, and with the words of a cell that spans once.

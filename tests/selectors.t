@@ -501,164 +501,270 @@ By what names and values say, in pages that are read as browsers read them.
 What is said of texts that are no selectors: each cause, and each thing to write in its place.
 
   $ tl select '[k' none
-  tl: no selector: at byte 0: this is opened and never closed: `[` (err)
+  tl: invalid selector: at byte 0: this is opened and never closed: `[` (err)
+    [k (err)
+    ^ (err)
   [2]
   $ tl select 'a > ' none
-  tl: no selector: at byte 4: a selector is missing (err)
+  tl: invalid selector: at byte 4: a selector is missing (err)
+    a >\x20 (esc) (err)
+        ^ (err)
   [2]
   $ tl select a..b none
-  tl: no selector: at byte 2: a name is missing: `.` (it may stand in quotes in a value, and behind `\` in a name) (err)
+  tl: invalid selector: at byte 2: a name is missing: `.` (it may stand in quotes in a value, and behind `\` in a name) (err)
+    a..b (err)
+      ^ (err)
   [2]
   $ tl select '[k~v]' none
-  tl: no selector: at byte 2: `=`, `~=`, `|=`, `^=`, `$=`, `*=` or `]` is missing: `~` (err)
+  tl: invalid selector: at byte 2: `=`, `~=`, `|=`, `^=`, `$=`, `*=` or `]` is missing: `~` (err)
+    [k~v] (err)
+      ^ (err)
   [2]
   $ tl select '[k==v]' none
-  tl: no selector: at byte 3: a value is missing: `=` (a value that is no name stands in quotes) (err)
+  tl: invalid selector: at byte 3: a value is missing: `=` (a value that is no name stands in quotes) (err)
+    [k==v] (err)
+       ^ (err)
   [2]
   $ tl select '[k= ]' none
-  tl: no selector: at byte 4: a value is missing: `]` (err)
+  tl: invalid selector: at byte 4: a value is missing: `]` (err)
+    [k= ] (err)
+        ^ (err)
   [2]
   $ tl select '[k=' none
-  tl: no selector: at byte 0: this is opened and never closed: `[` (err)
+  tl: invalid selector: at byte 0: this is opened and never closed: `[` (err)
+    [k= (err)
+    ^ (err)
   [2]
   $ tl select '[k=v is]' none
-  tl: no selector: at byte 5: the only flags are `i` and `s`: `is` (err)
+  tl: invalid selector: at byte 5: the only flags are `i` and `s`: `is` (err)
+    [k=v is] (err)
+         ^ (err)
   [2]
   $ tl select ':nth-child(a)' none
-  tl: no selector: at byte 11: this is no formula such as `2n+1`, `odd` or `3`: `a` (err)
+  tl: invalid selector: at byte 11: this is no formula such as `2n+1`, `odd` or `3`: `a` (err)
+    :nth-child(a) (err)
+               ^ (err)
   [2]
   $ tl select ':nth-child(2147483648)' none
-  tl: no selector: at byte 11: the number is above 2147483647: `2147483648` (err)
+  tl: invalid selector: at byte 11: the number is above 2147483647: `2147483648` (err)
+    :nth-child(2147483648) (err)
+               ^ (err)
   [2]
   $ tl select :first-childs none
-  tl: no selector: at byte 1: no such pseudo-class: `first-childs` (a colon in a name is written `\:`) (err)
+  tl: invalid selector: at byte 1: no such pseudo-class: `first-childs` (a colon in a name is written `\:`) (err)
+    :first-childs (err)
+     ^ (err)
   [2]
   $ tl select :first-child-whose-name-goes-on-for-more-than-forty-bytes-é none
-  tl: no selector: at byte 1: no such pseudo-class: `first-child-whose-name-goes-on-for-more-than-forty-bytes-é` (a colon in a name is written `\:`) (err)
+  tl: invalid selector: at byte 1: no such pseudo-class: `first-child-whose-name-goes-on-for-more-than-forty-bytes-é` (a colon in a name is written `\:`) (err)
+    :first-child-whose-name-goes-on-for-more-than-forty-bytes-é (err)
+     ^ (err)
   [2]
   $ tl select ::before none
-  tl: no selector: at byte 0: a pseudo-element is no tag: `:` (err)
+  tl: invalid selector: at byte 0: a pseudo-element is no tag: `:` (err)
+    ::before (err)
+    ^ (err)
   [2]
   $ tl select '[svg|href]' none
-  tl: no selector: at byte 4: no prefix of a namespace is known here: `|` (a bar in a name is written `\|`) (err)
+  tl: invalid selector: at byte 4: no prefix of a namespace is known here: `|` (a bar in a name is written `\|`) (err)
+    [svg|href] (err)
+        ^ (err)
   [2]
   $ tl select :not none
-  tl: no selector: at byte 4: an argument in brackets is missing (err)
+  tl: invalid selector: at byte 4: an argument in brackets is missing (err)
+    :not (err)
+        ^ (err)
   [2]
   $ tl select ':not b' none
-  tl: no selector: at byte 4: an argument in brackets is missing: ` ` (err)
+  tl: invalid selector: at byte 4: an argument in brackets is missing: ` ` (err)
+    :not b (err)
+        ^ (err)
   [2]
   $ tl select ':root(p)' none
-  tl: no selector: at byte 5: this pseudo-class takes no argument: `(` (err)
+  tl: invalid selector: at byte 5: this pseudo-class takes no argument: `(` (err)
+    :root(p) (err)
+         ^ (err)
   [2]
   $ tl select 'a*' none
-  tl: no selector: at byte 1: this can't stand here: `*` (err)
+  tl: invalid selector: at byte 1: this can't stand here: `*` (err)
+    a* (err)
+     ^ (err)
   [2]
   $ tl select 'a é %' none
-  tl: no selector: at byte 5: this can't stand here: `%` (it may stand in quotes in a value, and behind `\` in a name) (err)
+  tl: invalid selector: at byte 5: this can't stand here: `%` (it may stand in quotes in a value, and behind `\` in a name) (err)
+    a é % (err)
+        ^ (err)
   [2]
   $ tl select '[k=v é]' none
-  tl: no selector: at byte 5: the only flags are `i` and `s`: `é` (err)
+  tl: invalid selector: at byte 5: the only flags are `i` and `s`: `é` (err)
+    [k=v é] (err)
+         ^ (err)
   [2]
   $ tl select :active none
-  tl: no selector: at byte 1: no such pseudo-class: `active` (a page has no states) (err)
+  tl: invalid selector: at byte 1: no such pseudo-class: `active` (a page has no states) (err)
+    :active (err)
+     ^ (err)
   [2]
   $ tl select :focus none
-  tl: no selector: at byte 1: no such pseudo-class: `focus` (a page has no states) (err)
+  tl: invalid selector: at byte 1: no such pseudo-class: `focus` (a page has no states) (err)
+    :focus (err)
+     ^ (err)
   [2]
   $ tl select :focus-visible none
-  tl: no selector: at byte 1: no such pseudo-class: `focus-visible` (a page has no states) (err)
+  tl: invalid selector: at byte 1: no such pseudo-class: `focus-visible` (a page has no states) (err)
+    :focus-visible (err)
+     ^ (err)
   [2]
   $ tl select :FOCUS-WITHIN none
-  tl: no selector: at byte 1: no such pseudo-class: `FOCUS-WITHIN` (a page has no states) (err)
+  tl: invalid selector: at byte 1: no such pseudo-class: `FOCUS-WITHIN` (a page has no states) (err)
+    :FOCUS-WITHIN (err)
+     ^ (err)
   [2]
   $ tl select :target none
-  tl: no selector: at byte 1: no such pseudo-class: `target` (a page has no states) (err)
+  tl: invalid selector: at byte 1: no such pseudo-class: `target` (a page has no states) (err)
+    :target (err)
+     ^ (err)
   [2]
   $ tl select :visited none
-  tl: no selector: at byte 1: no such pseudo-class: `visited` (a page has no states) (err)
+  tl: invalid selector: at byte 1: no such pseudo-class: `visited` (a page has no states) (err)
+    :visited (err)
+     ^ (err)
   [2]
   $ tl select :any-link none
-  tl: no selector: at byte 1: no such pseudo-class: `any-link` (write `[href]`) (err)
+  tl: invalid selector: at byte 1: no such pseudo-class: `any-link` (write `[href]`) (err)
+    :any-link (err)
+     ^ (err)
   [2]
   $ tl select :checked none
-  tl: no selector: at byte 1: no such pseudo-class: `checked` (write `[checked]`) (err)
+  tl: invalid selector: at byte 1: no such pseudo-class: `checked` (write `[checked]`) (err)
+    :checked (err)
+     ^ (err)
   [2]
   $ tl select :disabled none
-  tl: no selector: at byte 1: no such pseudo-class: `disabled` (write `[disabled]`) (err)
+  tl: invalid selector: at byte 1: no such pseudo-class: `disabled` (write `[disabled]`) (err)
+    :disabled (err)
+     ^ (err)
   [2]
   $ tl select :enabled none
-  tl: no selector: at byte 1: no such pseudo-class: `enabled` (write `:not([disabled])`) (err)
+  tl: invalid selector: at byte 1: no such pseudo-class: `enabled` (write `:not([disabled])`) (err)
+    :enabled (err)
+     ^ (err)
   [2]
   $ tl select :required none
-  tl: no selector: at byte 1: no such pseudo-class: `required` (write `[required]`) (err)
+  tl: invalid selector: at byte 1: no such pseudo-class: `required` (write `[required]`) (err)
+    :required (err)
+     ^ (err)
   [2]
   $ tl select ':contains(x)' none
-  tl: no selector: at byte 1: no such pseudo-class: `contains` (there is no test of texts) (err)
+  tl: invalid selector: at byte 1: no such pseudo-class: `contains` (there is no test of texts) (err)
+    :contains(x) (err)
+     ^ (err)
   [2]
   $ tl select 'a$' none
-  tl: no selector: at byte 1: this can't stand here: `$` (it may stand in quotes in a value, and behind `\` in a name) (err)
+  tl: invalid selector: at byte 1: this can't stand here: `$` (it may stand in quotes in a value, and behind `\` in a name) (err)
+    a$ (err)
+     ^ (err)
   [2]
   $ tl select a% none
-  tl: no selector: at byte 1: this can't stand here: `%` (it may stand in quotes in a value, and behind `\` in a name) (err)
+  tl: invalid selector: at byte 1: this can't stand here: `%` (it may stand in quotes in a value, and behind `\` in a name) (err)
+    a% (err)
+     ^ (err)
   [2]
   $ tl select a/b none
-  tl: no selector: at byte 1: this can't stand here: `/` (it may stand in quotes in a value, and behind `\` in a name) (err)
+  tl: invalid selector: at byte 1: this can't stand here: `/` (it may stand in quotes in a value, and behind `\` in a name) (err)
+    a/b (err)
+     ^ (err)
   [2]
   $ tl select 'a?' none
-  tl: no selector: at byte 1: this can't stand here: `?` (it may stand in quotes in a value, and behind `\` in a name) (err)
+  tl: invalid selector: at byte 1: this can't stand here: `?` (it may stand in quotes in a value, and behind `\` in a name) (err)
+    a? (err)
+     ^ (err)
   [2]
   $ tl select 'a;' none
-  tl: no selector: at byte 1: this can't stand here: `;` (it may stand in quotes in a value, and behind `\` in a name) (err)
+  tl: invalid selector: at byte 1: this can't stand here: `;` (it may stand in quotes in a value, and behind `\` in a name) (err)
+    a; (err)
+     ^ (err)
   [2]
   $ tl select '{' none
-  tl: no selector: at byte 0: this can't stand here: `{` (it may stand in quotes in a value, and behind `\` in a name) (err)
+  tl: invalid selector: at byte 0: this can't stand here: `{` (it may stand in quotes in a value, and behind `\` in a name) (err)
+    { (err)
+    ^ (err)
   [2]
   $ tl select '}' none
-  tl: no selector: at byte 0: this can't stand here: `}` (it may stand in quotes in a value, and behind `\` in a name) (err)
+  tl: invalid selector: at byte 0: this can't stand here: `}` (it may stand in quotes in a value, and behind `\` in a name) (err)
+    } (err)
+    ^ (err)
   [2]
   $ tl select a:hover none
-  tl: no selector: at byte 2: no such pseudo-class: `hover` (a page has no states) (err)
+  tl: invalid selector: at byte 2: no such pseudo-class: `hover` (a page has no states) (err)
+    a:hover (err)
+      ^ (err)
   [2]
   $ tl select a:Link none
-  tl: no selector: at byte 2: no such pseudo-class: `Link` (write `[href]`) (err)
+  tl: invalid selector: at byte 2: no such pseudo-class: `Link` (write `[href]`) (err)
+    a:Link (err)
+      ^ (err)
   [2]
   $ tl select fb:like none
-  tl: no selector: at byte 3: no such pseudo-class: `like` (a colon in a name is written `\:`) (err)
+  tl: invalid selector: at byte 3: no such pseudo-class: `like` (a colon in a name is written `\:`) (err)
+    fb:like (err)
+       ^ (err)
   [2]
   $ tl select '[k=v x]' none
-  tl: no selector: at byte 5: the only flags are `i` and `s`: `x` (err)
+  tl: invalid selector: at byte 5: the only flags are `i` and `s`: `x` (err)
+    [k=v x] (err)
+         ^ (err)
   [2]
   $ tl select 'a!' none
-  tl: no selector: at byte 1: this can't stand here: `!` (it may stand in quotes in a value, and behind `\` in a name) (err)
+  tl: invalid selector: at byte 1: this can't stand here: `!` (it may stand in quotes in a value, and behind `\` in a name) (err)
+    a! (err)
+     ^ (err)
   [2]
   $ tl select '[@click]' none
-  tl: no selector: at byte 1: a name is missing: `@` (it may stand in quotes in a value, and behind `\` in a name) (err)
+  tl: invalid selector: at byte 1: a name is missing: `@` (it may stand in quotes in a value, and behind `\` in a name) (err)
+    [@click] (err)
+     ^ (err)
   [2]
   $ tl select '[src=a.png]' none
-  tl: no selector: at byte 6: this can't stand here: `.` (it may stand in quotes in a value, and behind `\` in a name) (err)
+  tl: invalid selector: at byte 6: this can't stand here: `.` (it may stand in quotes in a value, and behind `\` in a name) (err)
+    [src=a.png] (err)
+          ^ (err)
   [2]
   $ tl select '[src$=.png]' none
-  tl: no selector: at byte 6: a value is missing: `.` (a value that is no name stands in quotes) (err)
+  tl: invalid selector: at byte 6: a value is missing: `.` (a value that is no name stands in quotes) (err)
+    [src$=.png] (err)
+          ^ (err)
   [2]
   $ tl select '[k=]' none
-  tl: no selector: at byte 3: a value is missing: `]` (err)
+  tl: invalid selector: at byte 3: a value is missing: `]` (err)
+    [k=] (err)
+       ^ (err)
   [2]
   $ tl select '[k!=v]' none
-  tl: no selector: at byte 2: `=`, `~=`, `|=`, `^=`, `$=`, `*=` or `]` is missing: `!` (write `:not([key=value])`) (err)
+  tl: invalid selector: at byte 2: `=`, `~=`, `|=`, `^=`, `$=`, `*=` or `]` is missing: `!` (write `:not([key=value])`) (err)
+    [k!=v] (err)
+      ^ (err)
   [2]
   $ tl select 'svg|a' none
-  tl: no selector: at byte 3: no prefix of a namespace is known here: `|` (a bar in a name is written `\|`) (err)
+  tl: invalid selector: at byte 3: no prefix of a namespace is known here: `|` (a bar in a name is written `\|`) (err)
+    svg|a (err)
+       ^ (err)
   [2]
   $ tl select p::before none
-  tl: no selector: at byte 1: a pseudo-element is no tag: `:` (err)
+  tl: invalid selector: at byte 1: a pseudo-element is no tag: `:` (err)
+    p::before (err)
+     ^ (err)
   [2]
   $ tl select a, none
-  tl: no selector: at byte 2: a selector is missing (err)
+  tl: invalid selector: at byte 2: a selector is missing (err)
+    a, (err)
+      ^ (err)
   [2]
   $ tl select 'a:not(b' none
-  tl: no selector: at byte 5: this is opened and never closed: `(` (err)
+  tl: invalid selector: at byte 5: this is opened and never closed: `(` (err)
+    a:not(b (err)
+         ^ (err)
   [2]
   $ tl select "$(python3 -c 'print("a:is(" * 59)')" none
-  tl: no selector: at byte 291: too many selectors inside one another: `:` (err)
+  tl: invalid selector: at byte 291: too many selectors inside one another: `:` (err)
   [2]

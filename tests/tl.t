@@ -244,38 +244,50 @@ Of each page the first nodes alone; whether there are some; the files that have 
   ...
   [2]
   $ tl select -m x p none
-  tl: no number of nodes: x (err)
+  tl: invalid number for --max-count: x (err)
   [2]
   $ tl select -m -1 p none
   error: a value is required for '--max-count <N>' but none was supplied (err)
   ...
   [2]
   $ tl select -m 4294967296 p none
-  tl: no number of nodes: 4294967296 (err)
+  tl: invalid number for --max-count: 4294967296 (err)
   [2]
 
 What is wrong with one is said once, before a file is read.
 
   $ tl select 'p:hover' none none
-  tl: no selector: at byte 2: no such pseudo-class: `hover` (a page has no states) (err)
+  tl: invalid selector: at byte 2: no such pseudo-class: `hover` (a page has no states) (err)
+    p:hover (err)
+      ^ (err)
   [2]
   $ tl select --json 'img[src$=.png]' shelf page
-  tl: no selector: at byte 9: a value is missing: `.` (a value that is no name stands in quotes) (err)
+  tl: invalid selector: at byte 9: a value is missing: `.` (a value that is no name stands in quotes) (err)
+    img[src$=.png] (err)
+             ^ (err)
   [2]
   $ tl select '' <page
-  tl: no selector: at byte 0: a selector is missing (err)
+  tl: invalid selector: at byte 0: a selector is missing (err)
   [2]
   $ tl select -c ,p <page
-  tl: no selector: at byte 0: a selector is missing: `,` (err)
+  tl: invalid selector: at byte 0: a selector is missing: `,` (err)
+    ,p (err)
+    ^ (err)
   [2]
   $ tl select -1 'li:not(p' shelf
-  tl: no selector: at byte 6: this is opened and never closed: `(` (err)
+  tl: invalid selector: at byte 6: this is opened and never closed: `(` (err)
+    li:not(p (err)
+          ^ (err)
   [2]
   $ tl select ':nth-child(2147483648)' shelf
-  tl: no selector: at byte 11: the number is above 2147483647: `2147483648` (err)
+  tl: invalid selector: at byte 11: the number is above 2147483647: `2147483648` (err)
+    :nth-child(2147483648) (err)
+               ^ (err)
   [2]
   $ tl select -n '[@click]' shelf
-  tl: no selector: at byte 1: a name is missing: `@` (it may stand in quotes in a value, and behind `\` in a name) (err)
+  tl: invalid selector: at byte 1: a name is missing: `@` (it may stand in quotes in a value, and behind `\` in a name) (err)
+    [@click] (err)
+     ^ (err)
   [2]
 
 Tables as CSV.
@@ -315,10 +327,10 @@ Tables as CSV.
   $ tl table <page
   [1]
   $ tl table --number 0 table
-  tl: no number of a table: 0 (err)
+  tl: invalid number of a table: 0 (the first is 1) (err)
   [2]
   $ tl table --number x table
-  tl: no number of a table: x (err)
+  tl: invalid number of a table: x (the first is 1) (err)
   [2]
   $ tl table table page table
   table:a,"b, c",
@@ -349,10 +361,12 @@ The text inside of nodes.
   $ tl text --in nav articles
   [1]
   $ tl text --in nav: none
-  tl: no selector: at byte 4: a name is missing (err)
+  tl: invalid selector: at byte 4: a name is missing (err)
+    nav: (err)
+        ^ (err)
   [2]
   $ tl text --in '' articles
-  tl: no selector: at byte 0: a selector is missing (err)
+  tl: invalid selector: at byte 0: a selector is missing (err)
   [2]
   $ tl text -w --in article articles page
   articles:a
@@ -397,7 +411,9 @@ Texts without what is in some elements.
   articles:b
   articles:d
   $ tl text -w --not nav: none
-  tl: no selector: at byte 4: a name is missing (err)
+  tl: invalid selector: at byte 4: a name is missing (err)
+    nav: (err)
+        ^ (err)
   [2]
   $ tl text --not nav parts
   error: the following required arguments were not provided: (err)
@@ -465,10 +481,10 @@ Nothing was found, or something is refused or not understood.
   []
   [1]
   $ printf '\377' | tl print --strict
-  tl: -: no UTF-8 at byte 0; --encoding says what a page is in (err)
+  tl: -: no UTF-8 at byte 0; --encoding names the encoding (err)
   [2]
   $ printf '\377' | tl select --strict p
-  tl: -: no UTF-8 at byte 0; --encoding says what a page is in (err)
+  tl: -: no UTF-8 at byte 0; --encoding names the encoding (err)
   [2]
   $ tl
   error: 'tl' requires a subcommand but one was not provided (err)
@@ -529,7 +545,7 @@ Nothing was found, or something is refused or not understood.
   tl: -: Bad file descriptor (os error 9) (err)
   [4]
   $ mkdir folder && tl print folder
-  tl: folder: a folder; folder/*.html names the pages in it (err)
+  tl: folder: is a directory; folder/*.html names the pages in it (err)
   [4]
   $ tl print one "$(printf 'caf\351')"
   tl: words: no UTF-8 (err)
@@ -882,11 +898,11 @@ Words that no policy may list: the first one is named, and no page is made safe.
 Pages that can't be had are passed over, and the greatest status counts.
 
   $ printf '\377' | tl sanitize --strict
-  tl: -: no UTF-8 at byte 0; --encoding says what a page is in (err)
+  tl: -: no UTF-8 at byte 0; --encoding names the encoding (err)
   [2]
   $ tl sanitize --strict --no-name a.html bytes.html b.html
   <p>a</p><b>b</b> (no-eol)
-  tl: bytes.html: no UTF-8 at byte 0; --encoding says what a page is in (err)
+  tl: bytes.html: no UTF-8 at byte 0; --encoding names the encoding (err)
   [2]
   $ tl sanitize --no-name a.html none b.html
   <p>a</p><b>b</b> (no-eol)
@@ -894,10 +910,10 @@ Pages that can't be had are passed over, and the greatest status counts.
   [4]
   $ tl sanitize --strict none bytes.html
   tl: none: No such file or directory (os error 2) (err)
-  tl: bytes.html: no UTF-8 at byte 0; --encoding says what a page is in (err)
+  tl: bytes.html: no UTF-8 at byte 0; --encoding names the encoding (err)
   [4]
   $ tl sanitize --strict bytes.html none
-  tl: bytes.html: no UTF-8 at byte 0; --encoding says what a page is in (err)
+  tl: bytes.html: no UTF-8 at byte 0; --encoding names the encoding (err)
   tl: none: No such file or directory (os error 2) (err)
   [4]
   $ printf '<i>x</i>' | tl sanitize --no-name none -
@@ -905,7 +921,7 @@ Pages that can't be had are passed over, and the greatest status counts.
   tl: none: No such file or directory (os error 2) (err)
   [4]
   $ tl sanitize .
-  tl: .: a folder; ./*.html names the pages in it (err)
+  tl: .: is a directory; ./*.html names the pages in it (err)
   [4]
 
 Help names each command and each option, and words the lists.
@@ -937,8 +953,8 @@ Help names each command and each option, and words the lists.
   Usage: tl table [OPTIONS] [FILE]...
   Usage: tl print [OPTIONS] [FILE]...
   Usage: tl outline [OPTIONS] [FILE]...
-  Usage: tl set [OPTIONS] <SELECTOR> <KEY> [VALUE] [FILE]...
-  Usage: tl unset [OPTIONS] <SELECTOR> <KEY> [FILE]...
+  Usage: tl set [OPTIONS] <SELECTOR> <ATTRIBUTE> [VALUE] [FILE]...
+  Usage: tl unset [OPTIONS] <SELECTOR> <ATTRIBUTE> [FILE]...
   Usage: tl rename [OPTIONS] <SELECTOR> <NAME> [FILE]...
   Usage: tl remove [OPTIONS] <SELECTOR> [FILE]...
   Usage: tl unwrap [OPTIONS] <SELECTOR> [FILE]...
@@ -1005,36 +1021,36 @@ Help names each command and each option, and words the lists.
   --replace
   --suffix
   --verbose
-  $ grep -o '^WORDS have commas between them' help
-  WORDS have commas between them
-  $ tl --help | grep -o '^It ends with 0: all is done'
-  It ends with 0: all is done
+  $ grep -o '^WORDS are separated by commas' help
+  WORDS are separated by commas
+  $ tl --help | grep -o '^Exit status: 0: done'
+  Exit status: 0: done
   $ tl select --help | grep -o '^SELECTOR is one of CSS'
   SELECTOR is one of CSS
   $ tl --help | grep -A3 '^Examples:'
   Examples:
-    tl select -a href 'nav a' index.html    where the links of the navigation lead
-    tl text -w index.html                   the text of a page, a block on a line
-    tl sanitize comment.html                what of a page may be shown to others
+    tl select -a href 'nav a' index.html    the links of the navigation
+    tl text -w index.html                   the text, as a browser shows it
+    tl table index.html                     the first table, as CSV
   $ for command in select links text table print outline set unset rename remove unwrap replace fill prepend append before after sanitize; do tl $command --help | grep -A1 '^Example:' | tail -1; done
-    tl select -l 'img:not([alt])' *.html    pages with a picture that says nothing
-    tl links index.html | grep '^http:'     links that are not encrypted
-    tl text -w --in article index.html      what an article says, block by block
+    tl select -l 'img:not([alt])' *.html    files with images without alt text
+    tl links index.html | grep '^http:'     links that aren't encrypted
+    tl text -w --in article index.html      the text of an article, block by block
     tl table --number 2 index.html          the second table of a page
     tl print --pretty index.html            the page, an element on a line
     tl outline index.html                   what a page is made of
-    tl set -i img loading lazy *.html       pictures that are loaded when seen
-    tl unset -i '[style]' style *.html      pages without styles of their own
-    tl rename -i center div *.html          elements by a name of today
-    tl remove -i script *.html              pages without scripts
-    tl unwrap -i font *.html                elements gone, what is in them stays
-    tl replace --html 'br + br' '<hr>' a.html    a rule for a second break
-    tl fill -i title 'News & more' *.html   pages with another title
-    tl prepend --html -i head '<meta charset=utf-8>' *.html    their encoding
+    tl set -i img loading lazy *.html       lazy-load images
+    tl unset -i '[style]' style *.html      remove inline styles
+    tl rename -i center div *.html          replace the obsolete <center>
+    tl remove -i script *.html              remove all scripts
+    tl unwrap -i font *.html                remove <font>, and keep what is inside
+    tl replace --html 'br + br' '<hr>' a.html    a rule instead of a second break
+    tl fill -i title 'News & more' *.html   set a new title
+    tl prepend --html -i head '<meta charset=utf-8>' *.html    declare the encoding
     tl append --html -i footer '<hr>' *.html     a rule at the end of each footer
-    tl before --html h1 '<p>Draft</p>' a.html    a note before the title of a page
-    tl after 'a[href^=http]' ' (elsewhere)' a.html    where links lead out
-    tl sanitize --comments comment.html     what of a comment may be shown
+    tl before --html h1 '<p>Draft</p>' a.html    a note before the heading
+    tl after 'a[href^=http]' ' (elsewhere)' a.html    mark links to other sites
+    tl sanitize --comments comment.html     a comment, made safe to show
   $ for command in select links text table print outline set unset rename remove unwrap replace fill prepend append before after sanitize; do tl $command --help; done | awk 'length > 80'
   $ test "$(tl --version)" = "tl $VERSION"
 

@@ -175,7 +175,7 @@ fn content<'w>(matches: &ArgMatches<'w>, text: Option<&'w str>) -> Content<'w> {
 
 /// A key that gets a value, or one that is made of an old one.
 pub fn set<'w>(alloc: Global, matches: &ArgMatches<'w>) -> Result<Edit<'w>, UsageError<'w>> {
-    let key = key_at(alloc, matches, "KEY")?;
+    let key = key_at(alloc, matches, "ATTRIBUTE")?;
     if let Some(rewrite) = rewrite(alloc, matches)? {
         return Ok(Edit::Rewrite(key, rewrite));
     }
@@ -187,7 +187,7 @@ pub fn set<'w>(alloc: Global, matches: &ArgMatches<'w>) -> Result<Edit<'w>, Usag
 
 /// A key that goes.
 pub fn unset<'w>(alloc: Global, matches: &ArgMatches<'w>) -> Result<Edit<'w>, UsageError<'w>> {
-    Ok(Edit::Unset(key_at(alloc, matches, "KEY")?))
+    Ok(Edit::Unset(key_at(alloc, matches, "ATTRIBUTE")?))
 }
 
 /// What is done with elements, where the file that is named for what is put has this text.

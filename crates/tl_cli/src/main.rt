@@ -7,6 +7,7 @@ ghost use Rattle.tl_cli.specs.declared.args.UsageError.TheVariants.{OutOfMemory}
 ghost use Rattle.tl_cli.specs.UsageErrors.{IsWrongWord};
 
 mod args;
+mod caret;
 mod crossed;
 mod edit_words;
 mod filename;
@@ -28,6 +29,7 @@ mod texts;
 mod unread;
 
 use args::{Action, Args, Pages, UsageError, read};
+use caret::Caret;
 use clap::Error;
 use in_place_words::words_read;
 use job::Job;
@@ -44,6 +46,7 @@ use std::io::ErrorKind;
 use std::process::ExitCode;
 use task::Task;
 use terminal::Terminal;
+use tl_css::SelectorError;
 use tl_page::{Cause, Failure, text};
 use tl_tree_safe::{ListTexts, Lists, Policy, WordLists, lines_of};
 
@@ -137,6 +140,19 @@ fn print_clap_error(rt: &HostRuntime, error: &Error) -> Result<u8, Failure> {
     }
 }
 
+// Says what is wrong with a text that is no selector, and where.
+fn report_selector(rt: &HostRuntime, error: &SelectorError, text: &str) {
+    let described = error.describe(text);
+    let _ = eprintln!(rt; "tl: invalid selector: {described}");
+    let SelectorError::Text { at, .. } = error else {
+        return;
+    };
+    let caret = Caret { text, at: *at };
+    if caret.is_shown() {
+        let _ = eprintln!(rt; "{caret}");
+    }
+}
+
 // Says why nothing is made, or what was asked for in its place.
 fn report_usage_error(rt: &HostRuntime, usage_error: &UsageError<'_>) -> Result<u8, Failure>
     ensures memory { usage_error.now ≡ OutOfMemory → result ≡ Err NoMemory }
@@ -147,57 +163,54 @@ fn report_usage_error(rt: &HostRuntime, usage_error: &UsageError<'_>) -> Result<
         UsageError::OutOfMemory => return Err(report_failure(rt, "words", Failure::OutOfMemory)),
         UsageError::NoCommand => return Err(report_failure(rt, "words", Failure::NotUnderstood)),
         UsageError::NoNumber(word) => {
-            let _ = eprintln!(rt; "tl: no number of nodes: {word}");
+            let _ = eprintln!(rt; "tl: invalid number for --max-count: {word}");
         }
         UsageError::NoKey(key) => {
-            let _ = eprintln!(rt; "tl: no key: {key}");
+            let _ = eprintln!(rt; "tl: invalid attribute name: {key}");
         }
         UsageError::NoName(name) => {
-            let _ = eprintln!(rt; "tl: no name: {name}");
+            let _ = eprintln!(rt; "tl: invalid element name: {name}");
         }
         UsageError::NoValue => {
-            let _ = eprintln!(rt; "tl: no value: say VALUE, or an option that makes it");
+            let _ = eprintln!(rt; "tl: VALUE is missing: give it, or an option that makes it");
         }
         UsageError::NoWord(word) => {
-            let _ = eprintln!(rt; "tl: no word of a value: '{word}'");
+            let _ = eprintln!(rt; "tl: not one word: '{word}'");
         }
         UsageError::NoLiteral => {
-            let _ = eprintln!(rt; "tl: no text to be replaced: an empty word");
+            let _ = eprintln!(rt; "tl: --replace: the text to replace is empty");
         }
         UsageError::NoRegex(error, text) => {
-            let _ = eprintln!(rt; "tl: no regular expression: {text}: {error}");
+            let _ = eprintln!(rt; "tl: invalid regular expression: {text}: {error}");
         }
         UsageError::NoNames(text) => {
-            let _ = eprintln!(rt; "tl: no names, in which one * may stand: '{text}'");
+            let _ = eprintln!(rt; "tl: invalid pattern, which may have one * in it: '{text}'");
         }
         UsageError::InputTwice => {
-            let _ = eprintln!(rt; "tl: standard input is no page where it is what is put");
+            let _ = eprintln!(rt; "tl: standard input can't be both the page and what is put in");
         }
         UsageError::NoFile => {
-            let _ = eprintln!(rt; "tl: standard input has no file to be written");
+            let _ = eprintln!(rt; "tl: -i needs files: standard input can't be edited in place");
         }
         UsageError::NoSuffix => {
-            let _ = eprintln!(rt; "tl: no suffix of a backup: an empty word");
+            let _ = eprintln!(rt; "tl: --backup: the suffix is empty");
         }
         UsageError::NoTable(word) => {
-            let _ = eprintln!(rt; "tl: no number of a table: {word}");
+            let _ = eprintln!(rt; "tl: invalid number of a table: {word} (the first is 1)");
         }
         UsageError::NoUrl(error, text) => {
-            let _ = eprintln!(rt; "tl: no URL: {text}: {error}");
+            let _ = eprintln!(rt; "tl: invalid URL: {text}: {error}");
         }
         UsageError::NoPlace => {
-            let _ = eprintln!(rt; "tl: no place beside several columns: leave out --where");
+            let _ = eprintln!(rt; "tl: --where can't be used with several columns");
         }
         UsageError::NoColumn => {
-            let _ = eprintln!(rt; "tl: no column: say -a KEY or -t");
+            let _ = eprintln!(rt; "tl: no column: give -a NAME or -t");
         }
         UsageError::NoEncoding(label) => {
-            let _ = eprintln!(rt; "tl: no label of an encoding: {label}");
+            let _ = eprintln!(rt; "tl: unknown encoding: {label}");
         }
-        UsageError::NoSelector(error, text) => {
-            let described = error.describe(text);
-            let _ = eprintln!(rt; "tl: no selector: {described}");
-        }
+        UsageError::NoSelector(error, text) => report_selector(rt, error, text),
     }
     Err(Failure::NotUnderstood)
 }

@@ -180,7 +180,7 @@ struct UnsaidEncoding<'e> {
 impl fmt::Display for UnsaidEncoding<'_> {
     fn fmt<W: fmt::Write>(&self, f: &mut fmt::Formatter<W>) -> fmt::Result {
         let error = self.error;
-        write!(f, "{error}; --encoding says what a page is in")
+        write!(f, "{error}; --encoding names the encoding")
     }
 }
 

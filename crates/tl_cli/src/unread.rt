@@ -19,13 +19,13 @@ struct NoPage {
 impl fmt::Display for NoPage {
     fn fmt<W: fmt::Write>(&self, f: &mut fmt::Formatter<W>) -> fmt::Result {
         f.write_str(match self.media {
-            Media::Gif => "no page but a picture (GIF)",
-            Media::Gzip => "no page but gzip data; gzip -dc unpacks it",
-            Media::Jpeg => "no page but a picture (JPEG)",
-            Media::Pdf => "no page but a PDF; pdftohtml makes pages of it",
-            Media::Png => "no page but a picture (PNG)",
-            Media::WebP => "no page but a picture (WebP)",
-            Media::Zip => "no page but a zip archive; unzip -p unpacks it",
+            Media::Gif => "not a page, but a picture (GIF)",
+            Media::Gzip => "not a page, but gzip data; gzip -dc unpacks it",
+            Media::Jpeg => "not a page, but a picture (JPEG)",
+            Media::Pdf => "not a page, but a PDF; pdftohtml makes pages of it",
+            Media::Png => "not a page, but a picture (PNG)",
+            Media::WebP => "not a page, but a picture (WebP)",
+            Media::Zip => "not a page, but a zip archive; unzip -p unpacks it",
         })
     }
 }
@@ -47,11 +47,15 @@ fn is_address(word: &str) -> bool {
 pub fn report_unread(rt: &HostRuntime, file: &str, error: &io::Error) -> Failure {
     match error.kind() {
         ErrorKind::IsADirectory if file != "-" => {
-            let _ = eprintln!(rt; "tl: {file}: a folder; {file}/*.html names the pages in it");
+            let _ = eprintln!(rt;
+                "tl: {file}: is a directory; {file}/*.html names the pages in it"
+            );
             Failure::Fault
         }
         ErrorKind::NotFound if is_address(file) => {
-            let _ = eprintln!(rt; "tl: {file}: no file; curl -sL '{file}' | tl .. reads the page");
+            let _ = eprintln!(rt;
+                "tl: {file}: no such file; curl -sL '{file}' | tl .. reads a page of the web"
+            );
             Failure::Fault
         }
         _ => report_error(rt, file, error),

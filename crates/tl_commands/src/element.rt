@@ -37,17 +37,15 @@ impl ElementVerb {
     /// What it does.
     pub fn about<'w>(self) -> &'w str {
         match self {
-            ElementVerb::Rename => { "Gives elements where a selector holds another name" }
-            ElementVerb::Remove => { "Takes out elements where a selector holds; all else stays" }
-            ElementVerb::Unwrap => { "Takes out the tags of elements where a selector holds" }
-            ElementVerb::Replace => {
-                "Puts a text in the place of elements where a selector holds"
-            }
-            ElementVerb::Fill => { "Puts a text in the place of what is in elements" }
-            ElementVerb::Prepend => "Puts a text first in each element where a selector holds",
-            ElementVerb::Append => "Puts a text last in each element where a selector holds",
-            ElementVerb::Before => "Puts a text before each element where a selector holds",
-            ElementVerb::After => "Puts a text after each element where a selector holds",
+            ElementVerb::Rename => "Rename matching elements",
+            ElementVerb::Remove => "Remove matching elements",
+            ElementVerb::Unwrap => "Remove the tags of matching elements, and keep what is inside",
+            ElementVerb::Replace => "Replace matching elements by a text",
+            ElementVerb::Fill => "Replace what is inside matching elements by a text",
+            ElementVerb::Prepend => "Put a text first in each matching element",
+            ElementVerb::Append => "Put a text last in each matching element",
+            ElementVerb::Before => "Put a text before each matching element",
+            ElementVerb::After => "Put a text after each matching element",
         }
     }
 
@@ -91,81 +89,81 @@ impl ElementVerb {
 
 const RENAMES: &str = "\
 Example:
-  tl rename -i center div *.html          elements by a name of today
+  tl rename -i center div *.html          replace the obsolete <center>
 
-Attributes stay as they stand, and so does what is inside. An end tag that is
-left out is put in. What holds a text alone, as title and script, keeps its
-name, and none gets such a name; void elements, as br, stay void. Pages are
-UTF-8, and are read as browsers read them. A page that can't be changed so
-stays, and is said. Where nothing is found, no file is touched, and the status
-is 1.";
+Attributes stay, and so does the content. A missing end tag is put in.
+Nothing else in the page changes. A page that can't be edited this way is left
+as it is, with an error that says why. If nothing matches, no file is written
+and the exit status is 1.";
 
 const REMOVALS: &str = "\
 Example:
-  tl remove -i script *.html              pages without scripts
+  tl remove -i script *.html              remove all scripts
 
-An element goes from its start tag to its end tag, or to where it ends if that
-is left out. Pages are UTF-8, and are read as browsers read them. A page that
-can't be changed so, as where an element is not closed, stays, and is said.
-Where nothing is found, no file is touched, and the status is 1.";
+Nothing else in the page changes. A page that can't be edited this way is left
+as it is, with an error that says why. If nothing matches, no file is written
+and the exit status is 1.";
 
 const UNWRAPPED: &str = "\
 Example:
-  tl unwrap -i font *.html                elements gone, what is in them stays
+  tl unwrap -i font *.html                remove <font>, and keep what is inside
 
-What is inside stays. Pages are UTF-8, and are read as browsers read them. A
-page that can't be changed so, as where an element is not closed, stays, and is
-said. Where nothing is found, no file is touched, and the status is 1.";
+Where a missing end tag would let the content run on, it is put in.
+Nothing else in the page changes. A page that can't be edited this way is left
+as it is, with an error that says why. If nothing matches, no file is written
+and the exit status is 1.";
 
 const REPLACEMENTS: &str = "\
 Example:
-  tl replace --html 'br + br' '<hr>' a.html    a rule for a second break
+  tl replace --html 'br + br' '<hr>' a.html    a rule instead of a second break
 
-A text is escaped where it has to be. Pages are UTF-8, and are read as browsers
-read them. No other byte changes. A page that can't be changed so, as where an
-element is not closed, stays, and is said. Where nothing is found, no file is
-touched, and the status is 1.";
+TEXT is escaped, but with --html.
+Nothing else in the page changes. A page that can't be edited this way is left
+as it is, with an error that says why. If nothing matches, no file is written
+and the exit status is 1.";
 
 const FILLINGS: &str = "\
 Example:
-  tl fill -i title 'News & more' *.html   pages with another title
+  tl fill -i title 'News & more' *.html   set a new title
 
-A text is escaped where it has to be; in a script and its like it stands as it
-is, or is refused. Pages are UTF-8, and are read as browsers read them. No
-other byte changes. A page that can't be changed so stays, and is said. Where
-nothing is found, no file is touched, and the status is 1.";
+TEXT is escaped, but with --html. In a script or style it is put in as it is, or
+refused. A missing end tag is put in.
+Nothing else in the page changes. A page that can't be edited this way is left
+as it is, with an error that says why. If nothing matches, no file is written
+and the exit status is 1.";
 
 const FIRST_IN: &str = "\
 Example:
-  tl prepend --html -i head '<meta charset=utf-8>' *.html    their encoding
+  tl prepend --html -i head '<meta charset=utf-8>' *.html    declare the encoding
 
-A text is escaped where it has to be. Pages are UTF-8, and are read as browsers
-read them. No other byte changes. A page that can't be changed so stays, and is
-said. Where nothing is found, no file is touched, and the status is 1.";
+TEXT is escaped, but with --html.
+Nothing else in the page changes. A page that can't be edited this way is left
+as it is, with an error that says why. If nothing matches, no file is written
+and the exit status is 1.";
 
 const LAST_IN: &str = "\
 Example:
   tl append --html -i footer '<hr>' *.html     a rule at the end of each footer
 
-A text is escaped where it has to be. Pages are UTF-8, and are read as browsers
-read them. No other byte changes. A page that can't be changed so, as where an
-element is not closed, stays, and is said. Where nothing is found, no file is
-touched, and the status is 1.";
+TEXT is escaped, but with --html. A missing end tag is put in.
+Nothing else in the page changes. A page that can't be edited this way is left
+as it is, with an error that says why. If nothing matches, no file is written
+and the exit status is 1.";
 
 const IN_FRONT: &str = "\
 Example:
-  tl before --html h1 '<p>Draft</p>' a.html    a note before the title of a page
+  tl before --html h1 '<p>Draft</p>' a.html    a note before the heading
 
-A text is escaped where it has to be. Pages are UTF-8, and are read as browsers
-read them. No other byte changes. A page that can't be changed so stays, and is
-said. Where nothing is found, no file is touched, and the status is 1.";
+TEXT is escaped, but with --html.
+Nothing else in the page changes. A page that can't be edited this way is left
+as it is, with an error that says why. If nothing matches, no file is written
+and the exit status is 1.";
 
 const BEHIND: &str = "\
 Example:
-  tl after 'a[href^=http]' ' (elsewhere)' a.html    where links lead out
+  tl after 'a[href^=http]' ' (elsewhere)' a.html    mark links to other sites
 
-A text is escaped where it has to be. An end tag that is left out is put in
-before it. Pages are UTF-8, and are read as browsers read them. No other byte
-changes. A page that can't be changed so, as where an element is not closed,
-stays, and is said. Where nothing is found, no file is touched, and the status
-is 1.";
+TEXT is escaped, but with --html. A missing end tag is put in.
+Nothing else in the page changes. A page that can't be edited this way is left
+as it is, with an error that says why. If nothing matches, no file is written
+and the exit status is 1.";

@@ -16,7 +16,7 @@ pub const NO_NAME: Flag = Flag {
     name: "no-name",
     short: None,
     value: None,
-    help: "No `FILE:` before each line, where there are several",
+    help: "Don't put `FILE:` before lines of several files",
     excludes: &[],
 };
 
@@ -25,7 +25,7 @@ pub const ENCODING: Flag = Flag {
     name: "encoding",
     short: None,
     value: Some("LABEL"),
-    help: "What the pages are in, as koi8-r; auto: by bytes",
+    help: "Encoding of the pages, as koi8-r; auto: guess it",
     excludes: &[],
 };
 
@@ -33,7 +33,7 @@ const STRICT: Flag = Flag {
     name: "strict",
     short: None,
     value: None,
-    help: "Refuse pages with bytes that stand for no character",
+    help: "Refuse pages with invalid bytes",
     excludes: &[],
 };
 
@@ -41,7 +41,7 @@ const NULL: Flag = Flag {
     name: "null",
     short: Some('0'),
     value: None,
-    help: "End answers with a byte 0, not with a line feed",
+    help: "End each result with NUL, not with a line feed",
     excludes: &[],
 };
 
@@ -49,7 +49,7 @@ const FIRST: Flag = Flag {
     name: "first",
     short: Some('1'),
     value: None,
-    help: "The first node of each page alone",
+    help: "Only the first match of each file",
     excludes: &["count", "max-count"],
 };
 
@@ -57,7 +57,7 @@ const QUIET: Flag = Flag {
     name: "quiet",
     short: Some('q'),
     value: None,
-    help: "Write nothing: the status says what is found",
+    help: "Print nothing; the exit status tells",
     excludes: &[],
 };
 
@@ -65,7 +65,7 @@ const NAMES: Flag = Flag {
     name: "files-with-matches",
     short: Some('l'),
     value: None,
-    help: "Write the names of files where something is found",
+    help: "Print only the names of files with a match",
     excludes: &["quiet"],
 };
 
@@ -73,7 +73,7 @@ const MAX_COUNT: Flag = Flag {
     name: "max-count",
     short: Some('m'),
     value: Some("N"),
-    help: "The first N nodes of each page alone",
+    help: "Only the first N matches of each file",
     excludes: &[],
 };
 
@@ -81,7 +81,7 @@ const WHITESPACE: Flag = Flag {
     name: "whitespace",
     short: Some('w'),
     value: None,
-    help: "Blocks on lines, one space between words, no scripts",
+    help: "As browsers show it: blocks on lines, no scripts",
     excludes: &[],
 };
 
@@ -89,7 +89,7 @@ const INSIDE: Flag = Flag {
     name: "in",
     short: None,
     value: Some("SELECTOR"),
-    help: "Of what is inside each node where the selector holds",
+    help: "Only what is inside elements that match",
     excludes: &[],
 };
 
@@ -97,7 +97,7 @@ pub static LEFT_OUT: Flag = Flag {
     name: "not",
     short: None,
     value: Some("SELECTOR"),
-    help: "With -w: but for elements where the selector holds",
+    help: "With -w: leave out elements that match",
     excludes: &[],
 };
 
@@ -105,7 +105,7 @@ const COMMENTS: Flag = Flag {
     name: "comments",
     short: None,
     value: None,
-    help: "The comments in the place of the texts, one on a line",
+    help: "Comments instead of text, one on a line",
     excludes: &["whitespace", "not"],
 };
 
@@ -113,7 +113,7 @@ pub static TABLE_NUMBER: Flag = Flag {
     name: "number",
     short: Some('n'),
     value: Some("N"),
-    help: "The Nth table of each page; without it the first",
+    help: "The Nth table of each page (default: the first)",
     excludes: &[],
 };
 
@@ -121,7 +121,7 @@ const TSV: Flag = Flag {
     name: "tsv",
     short: None,
     value: None,
-    help: "Values with tabs between them",
+    help: "Columns separated by tabs",
     excludes: &["inside", "number", "count", "json"],
 };
 
@@ -129,7 +129,7 @@ const CSV: Flag = Flag {
     name: "csv",
     short: None,
     value: None,
-    help: "Values with commas between them, as RFC 4180 has it",
+    help: "Columns separated by commas (RFC 4180)",
     excludes: &["tsv", "inside", "number", "count", "json"],
 };
 
@@ -137,7 +137,7 @@ pub static WHERE: Flag = Flag {
     name: "where",
     short: None,
     value: None,
-    help: "FILE:LINE:COLUMN: before each, where it begins",
+    help: "Put FILE:LINE:COLUMN: before each match",
     excludes: &["count", "json", "tsv", "csv"],
 };
 
@@ -150,14 +150,14 @@ pub static TABLE_FLAGS: [Flag; 2] = [
         name: "tsv",
         short: None,
         value: None,
-        help: "Values with tabs between them, not commas",
+        help: "Columns separated by tabs, not by commas",
         excludes: &[],
     },
     Flag {
         name: "as-written",
         short: None,
         value: None,
-        help: "The words of a cell that spans once, where it begins",
+        help: "Don't repeat cells that span rows or columns",
         excludes: &[],
     },
 ];
@@ -166,7 +166,7 @@ pub static BASE: Flag = Flag {
     name: "base",
     short: None,
     value: Some("URL"),
-    help: "URL of the page: write where each link leads",
+    help: "URL of the page: make links absolute",
     excludes: &[],
 };
 
@@ -176,14 +176,14 @@ pub static HOSTS: [Flag; 2] = [
         name: "internal",
         short: None,
         value: None,
-        help: "With --base: links to the host of URL alone",
+        help: "With --base: only links to the host of URL",
         excludes: &["external"],
     },
     Flag {
         name: "external",
         short: None,
         value: None,
-        help: "With --base: links to other hosts alone",
+        help: "With --base: only links to other hosts",
         excludes: &[],
     },
 ];
@@ -191,8 +191,8 @@ pub static HOSTS: [Flag; 2] = [
 pub static LINK_KEY: Flag = Flag {
     name: "attribute",
     short: Some('a'),
-    value: Some("KEY"),
-    help: "Of attributes with this key alone; may be repeated",
+    value: Some("NAME"),
+    help: "Only links in this attribute; may be repeated",
     excludes: &[],
 };
 
@@ -200,15 +200,15 @@ pub static NODE_NUMBERS: Flag = Flag {
     name: "number",
     short: Some('n'),
     value: None,
-    help: "Its number before each node, and no node left out",
+    help: "Put its number before each node; leave none out",
     excludes: &[],
 };
 
 pub static ATTRIBUTE: Flag = Flag {
     name: "attribute",
     short: Some('a'),
-    value: Some("KEY"),
-    help: "The value at KEY, of nodes that have one",
+    value: Some("NAME"),
+    help: "Value of this attribute, where there is one",
     excludes: &["inside", "number", "count", "json"],
 };
 
@@ -216,7 +216,7 @@ pub static TEXT: Flag = Flag {
     name: "text",
     short: Some('t'),
     value: None,
-    help: "The characters of the texts below the node",
+    help: "Text content",
     excludes: &["inside", "number", "count", "json"],
 };
 
@@ -226,28 +226,28 @@ pub static NODE_FLAGS: [Flag; 4] = [
         name: "inside",
         short: Some('H'),
         value: None,
-        help: "The print of what is inside",
+        help: "Inner HTML",
         excludes: &[],
     },
     Flag {
         name: "number",
         short: Some('n'),
         value: None,
-        help: "Its number, from 0 in the order of the page",
+        help: "Node number, from 0 in document order",
         excludes: &[],
     },
     Flag {
         name: "count",
         short: Some('c'),
         value: None,
-        help: "How many nodes there are, once for each page",
+        help: "Number of matches of each file",
         excludes: &[],
     },
     Flag {
         name: "json",
         short: None,
         value: None,
-        help: "JSON: its number, name, attributes, place and text",
+        help: "JSON: number, name, attributes, place and text",
         excludes: &[],
     },
 ];
@@ -256,7 +256,7 @@ pub static PRETTY: Flag = Flag {
     name: "pretty",
     short: None,
     value: None,
-    help: "A tag on each line where white space doesn't count",
+    help: "An element on a line, where white space allows it",
     excludes: &[],
 };
 
@@ -264,7 +264,7 @@ pub static TREE: Flag = Flag {
     name: "tree",
     short: None,
     value: None,
-    help: "With --json: its children in place of its text",
+    help: "With --json: children instead of the text",
     excludes: &["attribute", "text", "inside", "number", "count"],
 };
 
@@ -272,7 +272,7 @@ const POLICY: Flag = Flag {
     name: "policy",
     short: None,
     value: None,
-    help: "Write these lists, one on each line, and read no page",
+    help: "Print the lists of the policy, and read no page",
     excludes: &[],
 };
 
@@ -282,21 +282,21 @@ pub static TARGETS: [Flag; 3] = [
         name: "in-place",
         short: Some('i'),
         value: None,
-        help: "Into their files, each of which is replaced at once",
+        help: "Edit files in place, each replaced atomically",
         excludes: &["dry-run"],
     },
     Flag {
         name: "backup",
         short: None,
         value: Some("SUFFIX"),
-        help: "So too, and the old page stays in FILESUFFIX",
+        help: "Edit in place, and keep the old file as FILESUFFIX",
         excludes: &["dry-run"],
     },
     Flag {
         name: "dry-run",
         short: None,
         value: None,
-        help: "Nowhere: write FILE:LINE:COLUMN of what would change",
+        help: "Change nothing: print FILE:LINE:COLUMN of each edit",
         excludes: &["diff"],
     },
 ];
@@ -307,21 +307,21 @@ pub static TELLINGS: [Flag; 3] = [
         name: "diff",
         short: None,
         value: None,
-        help: "Write what changes as a diff, and no page",
+        help: "Print a unified diff instead of the page",
         excludes: &[],
     },
     Flag {
         name: "verbose",
         short: Some('v'),
         value: None,
-        help: "Say on standard error how many places each page has",
+        help: "Count the edits of each file on standard error",
         excludes: &[],
     },
     Flag {
         name: "ok",
         short: None,
         value: None,
-        help: "Status 0 also where nothing is found",
+        help: "Exit status 0 even if nothing matches",
         excludes: &[],
     },
 ];
@@ -330,7 +330,7 @@ pub static HTML: Flag = Flag {
     name: "html",
     short: None,
     value: None,
-    help: "TEXT is markup, and stands as it is",
+    help: "TEXT is markup: don't escape it",
     excludes: &[],
 };
 
@@ -338,7 +338,7 @@ const RELATIVE_LINKS: Flag = Flag {
     name: "relative-links",
     short: None,
     value: None,
-    help: "Links beside the page may stand too, as x.png",
+    help: "Allow relative links, as x.png",
     excludes: &[],
 };
 
@@ -346,7 +346,7 @@ const NOFOLLOW_LINKS: Flag = Flag {
     name: "nofollow-links",
     short: None,
     value: None,
-    help: "Links get rel=\"nofollow noopener\"",
+    help: "Give links rel=\"nofollow noopener\"",
     excludes: &[],
 };
 
@@ -356,14 +356,14 @@ pub static BASES: [Flag; 2] = [
         name: "comments",
         short: None,
         value: None,
-        help: "Begin with the lists for comments of readers",
+        help: "Start from the policy for comments of readers",
         excludes: &[],
     },
     Flag {
         name: "documents",
         short: None,
         value: None,
-        help: "Begin with those for documents, as with tables",
+        help: "Start from the policy for documents, with tables",
         excludes: &[],
     },
 ];
@@ -374,42 +374,42 @@ pub static LISTS: [Flag; 6] = [
         name: "tags",
         short: None,
         value: Some("WORDS"),
-        help: "The tags that stand, as a,p",
+        help: "Allowed elements, as a,p; +img,-b changes the list",
         excludes: &[],
     },
     Flag {
         name: "keys",
         short: None,
         value: Some("WORDS"),
-        help: "The keys of attributes that stand",
+        help: "Allowed attributes",
         excludes: &[],
     },
     Flag {
         name: "link-keys",
         short: None,
         value: Some("WORDS"),
-        help: "Those of them whose values are links",
+        help: "Allowed attributes that hold links",
         excludes: &[],
     },
     Flag {
         name: "links",
         short: None,
         value: Some("WORDS"),
-        help: "What links begin with, as https:,/",
+        help: "What allowed links start with, as https:,/",
         excludes: &[],
     },
     Flag {
         name: "classes",
         short: None,
         value: Some("WORDS"),
-        help: "The classes that may stand, as language-*,hljs",
+        help: "Allowed classes, as language-*,hljs",
         excludes: &[],
     },
     Flag {
         name: "prefix",
         short: None,
         value: Some("WORD"),
-        help: "What values of id and name begin with",
+        help: "Prefix that values of id and name get",
         excludes: &[],
     },
 ];
@@ -420,56 +420,56 @@ pub static REWRITES: [Flag; 8] = [
         name: "prefix",
         short: None,
         value: Some("TEXT"),
-        help: "Its old value with TEXT in front",
+        help: "Put TEXT before the old value",
         excludes: &[],
     },
     Flag {
         name: "suffix",
         short: None,
         value: Some("TEXT"),
-        help: "Its old value with TEXT behind",
+        help: "Put TEXT after the old value",
         excludes: &[],
     },
     Flag {
         name: "add-word",
         short: None,
         value: Some("WORD"),
-        help: "Its old value with WORD more, as a class",
+        help: "Add WORD to the old value, as a class",
         excludes: &[],
     },
     Flag {
         name: "remove-word",
         short: None,
         value: Some("WORD"),
-        help: "Its old value without WORD",
+        help: "Remove WORD from the old value",
         excludes: &[],
     },
     Flag {
         name: "from",
         short: None,
-        value: Some("KEY"),
-        help: "The value of another key",
+        value: Some("NAME"),
+        help: "Copy the value of another attribute",
         excludes: &[],
     },
     Flag {
         name: "from-text",
         short: None,
         value: None,
-        help: "Where none is: its words, as an id for a heading",
+        help: "Where there is none: the words of the element",
         excludes: &[],
     },
     Flag {
         name: "base",
         short: None,
         value: Some("URL"),
-        help: "Its old value, absolute, where the page has URL",
+        help: "Make the old value absolute; URL is the page's",
         excludes: &[],
     },
     Flag {
         name: "drop-query",
         short: None,
         value: Some("GLOB"),
-        help: "Its old value without such parameters, as utm_*",
+        help: "Remove such parameters of the query, as utm_*",
         excludes: &[],
     },
 ];
@@ -478,7 +478,7 @@ pub static REPLACE: Flag = Flag {
     name: "replace",
     short: None,
     value: Some("TO"),
-    help: "Its old value with TO for each match of a regex",
+    help: "Replace each match of the regex RE with TO",
     excludes: &[
         "prefix",
         "suffix",
@@ -495,7 +495,7 @@ pub static LITERAL: Flag = Flag {
     name: "literal",
     short: None,
     value: None,
-    help: "With --replace: RE and TO are plain texts",
+    help: "With --replace: RE and TO are plain text",
     excludes: &[],
 };
 

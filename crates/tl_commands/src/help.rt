@@ -1,74 +1,72 @@
 //! What help says beside the names of commands and options.
 
-pub const ABOUT: &str = "Reads pages of HTML, however broken";
+pub const ABOUT: &str = "Query, edit and sanitize HTML pages, however broken";
 
 pub const PROGRAM: &str = "\
 Examples:
-  tl select -a href 'nav a' index.html    where the links of the navigation lead
-  tl text -w index.html                   the text of a page, a block on a line
-  tl sanitize comment.html                what of a page may be shown to others
+  tl select -a href 'nav a' index.html    the links of the navigation
+  tl text -w index.html                   the text, as a browser shows it
+  tl table index.html                     the first table, as CSV
+  tl set -i img loading lazy *.html       edit files in place
+  tl sanitize comment.html                a version that is safe to show
 
-Pages are read into the tree that browsers build of them: with html, head, body
-and tbody put in, end tags that may be left out, character references, and what
-stands wrongly moved; set and its like read the tags that the page itself has.
-A page is in what its byte-order mark says, else in what --encoding says, else
-what its <meta charset> says, else UTF-8. Bytes that stand for no character are
-read as U+FFFD, but with --strict. What is written is UTF-8, but for pages that
-are changed: these stay in their encoding.
+Pages are parsed as browsers parse them: html, head, body and tbody are put in,
+end tags may be left out, character references are decoded, misplaced content is
+moved. Edits change the tags that stand in the page, and no other byte.
 
-It ends with 0: all is done; 1: nothing is found, of select, links, table, text
---in and the commands that change where a selector holds; 2: words, a selector
-or a page are not understood, or a change is refused; 3: out of memory; 4: a
-read or a write failed; 141: what is written is read no more. A page that can't
-be read is said on standard error, and those after it are done.
+The encoding of a page is that of its byte-order mark, else that of --encoding,
+else that of its <meta charset>, else UTF-8. Invalid bytes are read as U+FFFD;
+with --strict such a page is refused. Output is UTF-8, but an edited page keeps
+its encoding.
 
-On a terminal names of files have colours, unless NO_COLOR is set, and where
-there are many files, or they take long, standard error says how far it is.";
+Exit status: 0: done; 1: nothing matched (select, links, table, text --in, and
+edits); 2: invalid usage, selector or page, or an edit was refused; 3: out of
+memory; 4: a read or write failed; 141: the output is read no more. A page that
+can't be read is reported on standard error, and the other pages are done.
+
+On a terminal file names are coloured, unless NO_COLOR is set. With many files,
+or slow ones, standard error shows how far it is.";
 
 pub const SELECTORS: &str = "\
 Example:
-  tl select -l 'img:not([alt])' *.html    pages with a picture that says nothing
+  tl select -l 'img:not([alt])' *.html    files with images without alt text
 
-SELECTOR is one of CSS (Level 4), and holds of tags:
-  name  *  #ID  .CLASS  [KEY]  [KEY=VALUE]  also ~= |= ^= $= *=
-  [KEY=VALUE i] (in any case)  A, B (either)
-  A B (B below A)  A > B (right below)  A + B (next to A)  A ~ B (after A)
+SELECTOR is one of CSS (Level 4), and matches elements:
+  NAME  *  #ID  .CLASS  [ATTRIBUTE]  [ATTRIBUTE=VALUE]  also ~= |= ^= $= *=
+  [ATTRIBUTE=VALUE i] (in any case)  A, B (either)
+  A B (B inside A)  A > B (child)  A + B (next sibling)  A ~ B (later sibling)
   :not(..) :is(..) :where(..) :has(..) :empty :root :first-child :last-child
   :only-child :nth-child(2n+1 of S) :nth-last-child(..), and -of-type
-A value that is no name stands in quotes: 'img[src$=\".png\"]'. Behind a \\ any
-character is one of a name: '[\\@click]'. docs/COMMANDS.md says what differs
-from browsers.
+A value that is no name is quoted: 'img[src$=\".png\"]'. Behind a \\ any character
+is part of a name: '[\\@click]'. docs/COMMANDS.md says what differs from browsers.
 
-Several -a, or -a and -t, give a line of values for each node, with tabs between
-them or as --csv has it: -a href -a class -t. There -t is the text as it is
-read, on one line, and a node without the key has an empty value.
+Several -a, or -a and -t, give a line of values for each match, separated by
+tabs, or as --csv has it: -a href -a class -t. There -t is the readable text on
+one line, and a missing attribute gives an empty value.
 
-Of several files each line has the name of its file and a colon before it; with
---json each node is an object on a line that has its file, where one file alone
-gives an array. With --tree each object has the nodes below it as children in
-the place of its text.";
+With several files each line begins with the name of its file and a colon; with
+--json each match is an object on a line, with its file, where one file alone
+gives an array. With --tree objects have their children instead of the text.";
 
 pub const LINKS: &str = "\
 Example:
-  tl links index.html | grep '^http:'     links that are not encrypted
+  tl links index.html | grep '^http:'     links that aren't encrypted
   tl links --base https://a.org/ --external -a href index.html
 
-With --base a link is written as the URL where it leads, which the page's first
-<base href> has its say in; what is no URL is written as it stands, and left out
-where a host is asked for.";
+With --base each link is made absolute, by the page's first <base href> too.
+What is no URL is printed as it is; --internal and --external leave it out.";
 
 pub const TEXTS: &str = "\
 Example:
-  tl text -w --in article index.html      what an article says, block by block";
+  tl text -w --in article index.html      the text of an article, block by block";
 
 pub const TABLES: &str = "\
 Example:
   tl table --number 2 index.html          the second table of a page
 
-A line for each row, with a value for each column: the words of the cell that
-covers the place. One that spans several says its words in each, but with
---as-written. Rows of a table in a cell are no rows of it; their words are words
-of the cell.";
+A line for each row, with a value for each column: the words of the cell there.
+A cell that spans several rows or columns is repeated in each, but with
+--as-written. A table inside a cell is part of the cell's words.";
 
 pub const PRINTS: &str = "\
 Example:
@@ -78,15 +76,15 @@ pub const OUTLINES: &str = "\
 Example:
   tl outline index.html                   what a page is made of
 
-Two spaces stand for each tag around a node, up to 64; past that, how many there
-are. A tag has its id, its class, and the keys name, property, type, rel, for,
-role, href, src and action; what is written selects it: a.next[href=\"/2\"]. Of a
-text and a comment it is the first line that has words. Texts of white space
-alone are left out, but with -n.";
+Each level is indented by two spaces, up to 64; deeper ones are numbered. Of an
+element its id, its class, and the attributes name, property, type, rel, for,
+role, href, src and action are printed, as a selector that matches it:
+a.next[href=\"/2\"]. Of a text or a comment the first line with words is printed.
+Texts of white space are left out, but with -n.";
 
 pub const SETTINGS: &str = "\
 Example:
-  tl set -i img loading lazy *.html       pictures that are loaded when seen
+  tl set -i img loading lazy *.html       lazy-load images
   tl set -i a href --replace ^http: https: *.html
   tl set -i 'a[href^=\"/\"]' href --prefix https://a.org *.html
   tl set -i table class --add-word wide *.html
@@ -94,24 +92,23 @@ Example:
   tl set -i a href --drop-query 'utm_*' *.html
   tl set img src --base https://a.org/b/ index.html
 
-Pages are UTF-8, and are read as browsers read them. No byte changes but in
-these tags: the value of the key, or the key. A page that can't be changed so
-stays, and is said. A file whose bytes stay isn't touched. Where nothing is
-found, or no value that is made of an old one is another one, the status is 1.";
+Nothing else in the page changes. A page that can't be edited this way is left
+as it is, with an error that says why. A file that stays the same isn't
+written. If nothing matches, or no value changes, the exit status is 1.";
 
 pub const UNSETTINGS: &str = "\
 Example:
-  tl unset -i '[style]' style *.html      pages without styles of their own
+  tl unset -i '[style]' style *.html      remove inline styles
 
-Pages are UTF-8, and are read as browsers read them. No byte changes but in
-these tags: the key goes. A page that can't be changed so stays, and is said.
-Where nothing is found, no file is touched, and the status is 1.";
+Nothing else in the page changes. A page that can't be edited this way is left
+as it is, with an error that says why. If nothing matches, no file is written
+and the exit status is 1.";
 
 pub const SAFE: &str = "\
 Example:
-  tl sanitize --comments comment.html     what of a comment may be shown
+  tl sanitize --comments comment.html     a comment, made safe to show
 
-WORDS have commas between them; a list that isn't said is that for the text of a
-blog, or for what --comments or --documents says, as --policy writes it.
-The page is to be served as UTF-8, in the content of an ordinary element.
-docs/SAFE.md says what is proved of it.";
+WORDS are separated by commas. A list that isn't given is that of the policy for
+blog posts, or of --comments or --documents; --policy prints them.
+Serve the result as UTF-8, in the content of an ordinary element. docs/SAFE.md
+says what is proved of it.";

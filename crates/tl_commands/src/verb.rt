@@ -16,7 +16,7 @@ use std::alloc::{AllocError, Global};
 fn files<'w>(alloc: Global) -> Arg<'w> {
     Arg::new(alloc, "FILE")
         .num_args(0..)
-        .help("The pages; - is standard input, and so is no FILE")
+        .help("HTML files; - or none: standard input")
 }
 
 // A command with these options.
@@ -102,16 +102,16 @@ impl Verb {
     // What it does.
     fn about<'w>(self) -> &'w str {
         match self {
-            Verb::Select => "Writes each node where a selector holds, in the order of the page",
-            Verb::Links => "Writes the URLs of all attributes that hold any",
-            Verb::Text => "Writes the texts of the page in order, without tags and comments",
-            Verb::Table => "Writes a table as CSV, the words of each cell with one space between",
-            Verb::Print => "Writes the page as browsers read it, with each tag closed",
-            Verb::Outline => { "Writes the page as a tree, a line for each node, as CSS names it" }
-            Verb::Set => { "Gives tags where a selector holds a value; each other byte stays" }
-            Verb::Unset => { "Takes a key from tags where a selector holds; all else stays" }
+            Verb::Select => "Print each element that matches, in document order",
+            Verb::Links => "Print the links of the page",
+            Verb::Text => "Print the text of the page, without tags and comments",
+            Verb::Table => "Print a table as CSV",
+            Verb::Print => "Print the page as browsers read it, serialized",
+            Verb::Outline => "Print the page as a tree, a line for each node",
+            Verb::Set => "Set an attribute of matching elements",
+            Verb::Unset => "Remove an attribute from matching elements",
             Verb::Element(verb) => verb.about(),
-            Verb::Sanitize => { "Prints what may be shown of the page, by lists of what may stand" }
+            Verb::Sanitize => "Print a safe version of the page, by lists of what is allowed",
         }
     }
 

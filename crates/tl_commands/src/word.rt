@@ -10,23 +10,23 @@ pub struct Word {
 
 const ELEMENT_SELECTOR: Word = Word {
     name: "SELECTOR",
-    help: "What holds of the elements, as for select",
+    help: "CSS selector, as for select",
 };
 
 const TAG_SELECTOR: Word = Word {
     name: "SELECTOR",
-    help: "What holds of the tags, as for select",
+    help: "CSS selector, as for select",
 };
 
 const KEY: Word = Word {
-    name: "KEY",
-    help: "The key, in any case",
+    name: "ATTRIBUTE",
+    help: "Name of the attribute, in any case",
 };
 
 // The words of `select`.
 pub static NODES: [Word; 1] = [Word {
     name: "SELECTOR",
-    help: "What holds of the nodes",
+    help: "CSS selector",
 }];
 
 // Those of `unset`, and of `set`.
@@ -35,7 +35,7 @@ pub static TAGS_AND_KEY: [Word; 2] = [TAG_SELECTOR, KEY];
 // That of `set` which isn't there where an option says how the value is made.
 pub static VALUE: Word = Word {
     name: "VALUE",
-    help: "Its value, as characters; none where an option makes it",
+    help: "The new value; leave it out if an option makes it",
 };
 
 // Those of commands that change elements.
@@ -45,7 +45,7 @@ pub static ELEMENTS_AND_NAME: [Word; 2] = [
     ELEMENT_SELECTOR,
     Word {
         name: "NAME",
-        help: "The name, in any case",
+        help: "Name of the element, in any case",
     },
 ];
 
@@ -53,7 +53,7 @@ pub static ELEMENTS_AND_TEXT: [Word; 2] = [
     ELEMENT_SELECTOR,
     Word {
         name: "TEXT",
-        help: "What is put, as characters; of @FILE what FILE has",
+        help: "Text to put in; @FILE reads it from FILE",
     },
 ];
 
