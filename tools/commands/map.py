@@ -2,10 +2,12 @@
 
     ./x map [NAME..]      of all crates, in the order of crates.txt, or of those that are named
     ./x map --specs ..    their definitions too
+    ./x map --calls ..    instead, the public calls: signature, first sentence of the comment, and the names of the clauses
 """
 import itertools
 import re
 
+from .. import public_calls
 from ..workspace import Stop, Workspace, text_of
 
 MARKS = {".rt": "//!", ".antt": "--"}
@@ -33,8 +35,18 @@ def modules(workspace, crate, with_specs):
             yield name, first_sentence(text_of(f"{workspace.root}/{path}"), mark)
 
 
+def print_calls(workspace, crate):
+    """Prints the public calls of a crate, by module and type."""
+    for module, found in public_calls.calls(workspace, crate):
+        print(f"  {module}")
+        for it in found:
+            owner = f"{it.owner}: " if it.owner else ""
+            print("\n        ".join(part for part in (f"    {owner}{it.signature}", it.said(), it.promises()) if part))
+
+
 def main(parser, words):
     parser.add_argument("--specs", action="store_true")
+    parser.add_argument("--calls", action="store_true")
     parser.add_argument("names", nargs="*", metavar="NAME")
     given = parser.parse_args(words)
     workspace = Workspace()
@@ -43,7 +55,9 @@ def main(parser, words):
             raise Stop(f"crates.txt has no line of {it}")
     for crate in given.names or workspace.libraries:
         print(f"{crate}: {workspace.notes[crate]}")
-        for name, sentence in modules(workspace, crate, given.specs):
+        if given.calls:
+            print_calls(workspace, crate)
+        for name, sentence in () if given.calls else modules(workspace, crate, given.specs):
             print(f"    {name:<28} {sentence}".rstrip())
         print()
     return 0
