@@ -13,7 +13,7 @@ The first of README.md, and of docs/COMMANDS.md:
   Bread & butter
   3 < 4
 
-README.md, Try it:
+README.md, Install:
 
   $ printf '<nav><a href="/x">y</a></nav>' | tl select -a href 'nav a'
   /x

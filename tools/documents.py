@@ -9,8 +9,8 @@ from .transcripts import rows_of
 from .workspace import ROOT, text_of
 
 BY_HAND = "tests/by_hand.list"
-# The caller whose body the README shows.
-CALLER = "crates/uses/src/values.rt"
+# Where the README has its examples from, by their language.
+EXAMPLES = {"rust": "bindings/rust/README.md", "python": "bindings/python/README.md"}
 # Paths begin with one of these, or with the name of a crate.
 TOP = {"crates", "docs", "tools", "tests", "include", "bindings", "compare", *os.listdir(f"{ROOT}/crates")}
 BUILT = {".git", "out", "target", "__pycache__"}
@@ -102,15 +102,20 @@ def faults():
     yield from name_faults()
 
 
+def block_of(file, language):
+    """The first block of code of a document in a language, or nothing."""
+    found = re.search(rf"(?ms)^```{language}\n(.*?)^```$", text_of(f"{ROOT}/{file}"))
+    return found[1] if found else ""
+
+
 def code_faults():
-    """The first blocks of Rust that no source has: the README's are lines of a body, that of CALLING what ./x new makes."""
-    for file, place, has in (
-        ("README.md", CALLER, lambda it: re.sub("(?m)^(?=.)", "    ", it) in text_of(f"{ROOT}/{CALLER}")),
-        ("docs/CALLING.md", "tools/commands/new.py", lambda it: it == new.SOURCE),
-    ):
-        block = re.search(r"(?ms)^```rust\n(.*?)^```$", text_of(f"{ROOT}/{file}"))
-        if not block or not has(block[1]):
-            yield f"{file}: its first block of Rust doesn't stand in {place}"
+    """The first blocks of code that no source has: the README's are those of the bindings, that of CALLING what ./x new makes."""
+    for language, place in EXAMPLES.items():
+        block = block_of("README.md", language)
+        if not block or block not in block_of(place, language):
+            yield f"README.md: its first block of {language} doesn't stand in that of {place}"
+    if block_of("docs/CALLING.md", "rust") != new.SOURCE:
+        yield "docs/CALLING.md: its first block of rust isn't SOURCE of tools/commands/new.py"
 
 
 def files_there():

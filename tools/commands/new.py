@@ -4,7 +4,7 @@
     ./x new --program NAME ..       a program
     ./x new --workspace DIR         a workspace in the folder DIR, which is not there or empty: `tl_tree_select` and what it stands on,
                                     as ./x vendor copies them, and the program `page`, which prints what the links of a page say:
-                                    the caller that the README shows, with its definition and its clause
+                                    the caller of crates/uses/src/values.rt, with its definition and its clause
 
 What is made compiles (`rt try`) and is proved (`rt check`) as it stands: a crate begins with one function, whose clause cites the
 definition in `specs`. What more a new crate here wants say CONTRIBUTING.md, and docs/DECISIONS.md (Crates).
