@@ -9,13 +9,14 @@
 - The README of each crate: whether there is one, and what it names is there (tools/readmes.py).
 - The three languages: whether C, Rust and Python have the calls that bindings/calls.txt lists and no other, and whether docs/LIBRARY.md
   shows that list (tools/languages.py).
+- Words: whether documents, help and messages are written in those of docs/STYLE.md (tools/style.py).
 - Layout: whether each crate's sources are laid out as `rt fmt` lays them out.
 
 A new row of a document goes into tests/documents.t, and ./x runs tries it.
 """
 from concurrent.futures import ThreadPoolExecutor
 
-from .. import documents, languages, readmes, references
+from .. import documents, languages, readmes, references, style
 from ..running import run
 from ..workspace import Workspace, cores
 
@@ -37,11 +38,11 @@ def other_layouts(workspace):
 
 def check():
     """Says what is wrong. Whether nothing is."""
-    found = [*documents.faults(), *readmes.faults(), *references.faults(), *languages.faults(), *other_layouts(Workspace())]
+    found = [*documents.faults(), *readmes.faults(), *references.faults(), *languages.faults(), *style.faults(), *other_layouts(Workspace())]
     for it in found:
         print(f"text: {it}")
     if not found:
-        print("text: what the documents and READMEs show and name is there, references are the standard's, and sources are laid out", flush=True)
+        print("text: what the documents and READMEs show and name is there, in the words of docs/STYLE.md, references are the standard's, and sources are laid out", flush=True)
     return not found
 
 
