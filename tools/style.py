@@ -10,14 +10,15 @@ APART = {STYLE, "docs/GRAMMAR.md", "docs/TRAPS.md", "docs/DIFFERENCES.md"}
 HELP = "tl_commands"
 # Sources with messages: they write `Display`, or have them as constants.
 MESSAGES = re.compile(r"impl (?:fmt::)?Display for|const [A-Z_]*: &(?:'static )?str")
-STRING = re.compile(r'"((?:[^"\\]|\\.)*)"')
+# A comment, a character, or a string, which alone is kept, raw or not.
+STRING = re.compile(r"""(?s)//[^\n]*|'(?:\\.|[^'\\])'|r(#*)"(.*?)"\1|"((?:[^"\\]|\\.)*)\"""")
 ROW = re.compile(r"(?m)^\| ([^|`]+) \| (`[^|]+`) \|$")
 
 
 def rows(heading):
     """The rows of a table of the list: what to write, and how its words are found."""
     part = text_of(f"{ROOT}/{STYLE}").split(f"## {heading}\n")[1].partition("\n## ")[0]
-    found = ((better, [re.escape(it) for it in re.findall("`([^`]+)`", words)]) for better, words in ROW.findall(part))
+    found = ((better, [r"\s+".join(map(re.escape, it.split())) for it in re.findall("`([^`]+)`", words)]) for better, words in ROW.findall(part))
     return [(better, re.compile(rf"\b(?:{'|'.join(words)})\b", re.I)) for better, words in found]
 
 
@@ -37,7 +38,8 @@ def strings(crate, workspace):
         if re.match(r"crates/\w+/src/.*\.rt$", path):
             text = text_of(f"{ROOT}/{path}")
             if crate == HELP or MESSAGES.search(text):
-                yield from ((f"{path}:{text.count(chr(10), 0, it.start()) + 1}", it[1]) for it in STRING.finditer(text))
+                found = ((it.start(), it[2] or it[3]) for it in STRING.finditer(text) if it[2] or it[3])
+                yield from ((f"{path}:{text.count(chr(10), 0, at) + 1}", string) for at, string in found)
 
 
 def faults():
@@ -46,6 +48,6 @@ def faults():
     lines = [(f"{path}:{number}", line) for path in read for number, line in prose(text_of(f"{ROOT}/{path}"))]
     workspace = Workspace()
     said = [it for crate in workspace.libraries if not crate.endswith("_tests") for it in strings(crate, workspace)]
-    for heading, places in (("Words", lines), ("Words in help and messages", [*lines, *said])):
+    for heading, places in (("Words", [*lines, *said]), ("Words of documents alone", lines)):
         for better, words in rows(heading):
             yield from (f"{place}: `{found[0]}`: write {better} ({STYLE})" for place, line in places for found in words.finditer(line))
