@@ -1,5 +1,5 @@
 -- What is encoded is decoded as it was, and the other way round.
-use Rattle.std.proofs.Common.{◌≡◌, ◌∙◌, ℕ, ◌+◌, ◌-◌, ◌<◌, ◌≤◌, Bool, true, false, ◌==◌, List, [], ◌∷◌, ◌++◌, Option, Some, None, ap, ap₂, arith, encode_utf8, encode_utf8_all, flat_map, true≢false, get_or, inl, inr, map, nat_le, nat_lt, refl, suc, sym}
+use Rattle.std.proofs.Common.{◌≡◌, ◌∙◌, ℕ, ◌+◌, ◌-◌, ◌<◌, ◌≤◌, true, false, ◌==◌, List, [], ◌∷◌, ◌++◌, Option, Some, None, ap, arith, encode_utf8, encode_utf8_all, flat_map, true≢false, get_or, inl, inr, map, nat_le, nat_lt, refl, suc, sym}
 use Rattle.std.proofs.Math.Utf8.{scalar, scalars}
 use Rattle.std.proofs.lemmas.Bool.{and_from, and_parts, cases_Bool, le-leb, le-ltb, leb-true, lt-ltb, ltb-false, ltb-true}
 use Rattle.std.proofs.lemmas.Option.{none-some, same_Some}
@@ -9,7 +9,7 @@ use Rattle.std.specs.Int.{is_in_range}
 use Rattle.std.specs.Prelude.{IsUtf8}
 use Rattle.std.specs.Str.{chars}
 use Rattle.tl_encoding.specs.Decoders.{decoded, index_wrong, user_defined, wrong_in}
-use Rattle.tl_encoding.specs.Encoders.{alone, appended, ascii_byte, byte_of, encoded, encoded_point, has_encoder, index_byte, user_byte}
+use Rattle.tl_encoding.specs.Encoders.{alone, appended, ascii_byte, encoded, encoded_point, has_encoder, index_byte, user_byte}
 use Rattle.tl_encoding.specs.MultiByte.{multi_byte, multi_byte_wrong}
 use Rattle.tl_encoding.specs.SingleByte.{index, of_index}
 use Rattle.tl_encoding.specs.declared.encoding.ByteOrder.{ByteOrder}

@@ -1,5 +1,5 @@
 -- Runs of ASCII in front of bytes: what they are, and what a text has of them.
-use Rattle.std.proofs.Common.{◌≡◌, ◌∙◌, ℕ, ◌+◌, ◌<◌, ◌≤◌, Bool, true, false, not, List, [], ◌∷◌, ◌++◌, Option, Some, None, ap, append_assoc, sym, refl, arith, inl, inr, drop, length, suc, take, encode_utf8, encode_utf8_all, flat_map, nat_le, nat_lt, rules, get_or}
+use Rattle.std.proofs.Common.{◌≡◌, ◌∙◌, ℕ, ◌+◌, ◌<◌, ◌≤◌, true, false, not, List, [], ◌∷◌, ◌++◌, Some, ap, append_assoc, sym, refl, arith, inl, inr, drop, length, suc, take, encode_utf8, encode_utf8_all, flat_map, nat_le, nat_lt, rules}
 use Rattle.std.proofs.lemmas.Bool.{cases_Bool, lt-leb, lt-ltb, cond-true, cond-false, eq-eqb, ltb-true, ne_eqb}
 use Rattle.std.proofs.lemmas.Simd.{chunk-drop, length-chunk}
 use Rattle.std.proofs.lemmas.Str.{encode_ascii}

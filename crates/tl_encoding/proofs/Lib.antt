@@ -8,6 +8,7 @@ pub mod Shorter
 pub mod Steps
 pub mod Tables
 pub mod Units
+pub mod Unmarked
 pub mod Utf16
 pub mod Utf8
 pub mod Wellformed

@@ -1,16 +1,15 @@
 -- The bytes of UTF-16 of characters are read as these.
-use Rattle.std.proofs.Common.{◌≡◌, ◌∙◌, ℕ, ◌+◌, ◌-◌, ◌*◌, ◌/◌, ◌%◌, ◌<◌, ◌≤◌, Bool, true, false, ◌&&◌, List, [], ◌∷◌, ◌++◌, Option, Some, None, ap, append-nil, append_assoc, arith, encode_utf8, encode_utf8_all, inl, inr, nat_le, nat_lt, refl, sym}
+use Rattle.std.proofs.Common.{◌≡◌, ◌∙◌, ℕ, ◌+◌, ◌-◌, ◌/◌, ◌%◌, ◌<◌, ◌≤◌, true, false, List, [], ◌∷◌, ◌++◌, Option, Some, None, ap, append-nil, arith, encode_utf8, encode_utf8_all, inl, inr, nat_lt, refl, sym}
 use Rattle.std.proofs.Math.Nat.{div-lt_iff_lt-mul, mod-lt}
 use Rattle.std.proofs.Math.Utf8.{scalar, scalar_cases, scalars}
 use Rattle.std.proofs.lemmas.Option.{none-some, same_Some}
-use Rattle.std.proofs.lemmas.Bool.{and_from, and_left, and_parts, and_right, cases_Bool, le-leb, le-ltb, lt-leb, lt-ltb, ltb-false, ltb-true}
+use Rattle.std.proofs.lemmas.Bool.{and_from, and_left, and_parts, and_right, cases_Bool, le-leb, le-ltb, lt-leb, lt-ltb, ltb-false}
 use Rattle.std.proofs.lemmas.Nat.{div-add-mod'}
 use Rattle.std.specs.Char.Utf16.{is_high_surrogate, is_low_surrogate, surrogate_pair_char}
 use Rattle.tl_encoding.specs.Encoders.{appended, encoded, unit_bytes, units_bytes}
 use Rattle.tl_encoding.specs.Utf16.{start, utf_16, utf_16_wrong}
 use Rattle.tl_encoding.specs.declared.encoding.ByteOrder.{ByteOrder}
 use Rattle.tl_encoding.specs.declared.encoding.ByteOrder.TheVariants.{BigEndian, LittleEndian}
-use Rattle.tl_encoding.specs.declared.encoding.Encoding.{Encoding}
 use Rattle.tl_encoding.specs.declared.encoding.Encoding.TheVariants.{Utf16}
 
 -- a code unit that is no surrogate

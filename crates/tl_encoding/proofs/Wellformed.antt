@@ -1,15 +1,14 @@
 -- Bytes of UTF-16 without an error are those of the characters that they stand for.
-use Rattle.std.proofs.Common.{◌≡◌, ◌∙◌, ℕ, ◌+◌, ◌-◌, ◌*◌, ◌/◌, ◌%◌, ◌<◌, ◌≤◌, Bool, true, false, ◌&&◌, List, [], ◌∷◌, ◌++◌, Option, Some, None, ap, ap₂, arith, encode_utf8, encode_utf8_all, get_or, inl, inr, length, nat_le, nat_lt, refl, suc, sym, zero}
+use Rattle.std.proofs.Common.{◌≡◌, ◌∙◌, ℕ, ◌+◌, ◌-◌, ◌*◌, ◌/◌, ◌%◌, ◌<◌, ◌≤◌, true, false, List, [], ◌∷◌, ◌++◌, Some, None, ap, ap₂, arith, encode_utf8, encode_utf8_all, get_or, inl, inr, length, nat_le, nat_lt, refl, suc, sym, zero}
 use Rattle.std.proofs.Math.Nat.{div-eq_of_lt, mod-eq_of_lt, mul-add-div_right, mul-add-mod_self_right}
 use Rattle.std.proofs.Math.Utf8.{scalar, scalars}
-use Rattle.std.proofs.lemmas.Option.{none-some, same_Some}
+use Rattle.std.proofs.lemmas.Option.{none-some}
 use Rattle.std.proofs.lemmas.Bool.{and_cases, and_from, and_parts, cases_Bool, le-leb, le-ltb, leb-false, leb-true, lt-ltb, ltb-false, ltb-true}
 use Rattle.std.specs.Char.Utf16.{is_high_surrogate, is_low_surrogate, surrogate_pair_char}
 use Rattle.tl_encoding.specs.Encoders.{appended, encoded, unit_bytes, units_bytes}
 use Rattle.tl_encoding.specs.Utf16.{code_unit, start, utf_16, utf_16_wrong}
 use Rattle.tl_encoding.specs.declared.encoding.ByteOrder.{ByteOrder}
 use Rattle.tl_encoding.specs.declared.encoding.ByteOrder.TheVariants.{BigEndian, LittleEndian}
-use Rattle.tl_encoding.specs.declared.encoding.Encoding.{Encoding}
 use Rattle.tl_encoding.specs.declared.encoding.Encoding.TheVariants.{Utf16}
 use Rattle.tl_encoding.proofs.Units.{lower, one_read, two_read, upper}
 

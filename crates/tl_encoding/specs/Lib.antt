@@ -9,6 +9,7 @@ pub mod Examples
 pub mod Indexes
 pub mod Iso2022Jp
 pub mod Labels
+pub mod Marks
 pub mod MultiByte
 pub mod Names
 pub mod Pairs

@@ -1,5 +1,5 @@
 -- What bytes are that hold no page, by the patterns of the MIME sniffing standard (6.1, 6.4, 7.1).
-use Rattle.std.specs.Prelude.{ℕ, Bool, ◌&&◌, ◌++◌, List, [], ◌∷◌, Option, Some, None, codes, drop, if◌then◌else◌}
+use Rattle.std.specs.Prelude.{ℕ, Bool, ◌&&◌, List, [], ◌∷◌, Option, Some, None, codes, drop, if◌then◌else◌}
 use Rattle.tl_encoding.specs.Runs.{begins}
 use Rattle.tl_encoding.specs.declared.signature.Media.{Media}
 use Rattle.tl_encoding.specs.declared.signature.Media.TheVariants.{Gif, Gzip, Jpeg, Pdf, Png, WebP, Zip}

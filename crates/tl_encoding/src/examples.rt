@@ -1,13 +1,14 @@
 //! Worked rows: pages, and what the standard's prescan finds in them.
 #![tactic(auto, unfolding(crate::specs::Labels::labels))]
 
-ghost use Rattle.std.specs.Prelude.{◌≡◌, [], ◌∷◌, Some, None, codes, encode_utf8, encode_utf8_all};
+ghost use Rattle.std.specs.Prelude.{◌≡◌, [], ◌∷◌, ◌++◌, Some, None, codes, encode_utf8, encode_utf8_all, false, true};
 ghost use Rattle.tl_encoding.specs.Attributes.{tag_end, value_at};
 ghost use Rattle.tl_encoding.specs.Content.{content_label};
 ghost use Rattle.tl_encoding.specs.Decoders.{decoded, user_defined, wrong_in};
 ghost use Rattle.tl_encoding.specs.Encoders.{encoded, reference, written};
 ghost use Rattle.tl_encoding.specs.Encodings.{encoding_in, encoding_labelled, encoding_marked};
 ghost use Rattle.tl_encoding.specs.Examples.{Declares, DeclaresNothing, Decodes, Means, Says, SaysNothing, latin_1};
+ghost use Rattle.tl_encoding.specs.Marks.{is_mark, marked, marks, unmarked};
 ghost use Rattle.tl_encoding.specs.Signatures.{media_of};
 ghost use Rattle.tl_encoding.specs.SingleByte.{index, of_index};
 ghost use Rattle.tl_encoding.specs.Utf8.{utf_8};
@@ -236,6 +237,19 @@ pub fn wrong_bytes()
     ensures at_the_end { utf_8 (0xE2 ∷ 0x82 ∷ []) ≡ 0xFFFD ∷ [] }
     ensures replaced { decoded Replacement (0x61 ∷ 0x62 ∷ []) ≡ encode_utf8 0xFFFD }
     ensures nothing { decoded Replacement [] ≡ [] }
+{}
+
+/// Marks for bytes that are no UTF-8, and the bytes of a text with marks.
+pub fn marked_bytes()
+    ensures text { marked (0x61 ∷ 0xC3 ∷ 0xA9 ∷ []) ≡ 0x61 ∷ 0xC3 ∷ 0xA9 ∷ [] }
+    ensures alone { marked (0x61 ∷ 0xFF ∷ 0x62 ∷ []) ≡ 0x61 ∷ (marks (0xFF ∷ []) ++ 0x62 ∷ []) }
+    ensures run { marked (0xF0 ∷ 0x9F ∷ 0x98 ∷ 0x62 ∷ [])
+        ≡ marks (0xF0 ∷ 0x9F ∷ 0x98 ∷ []) ++ 0x62 ∷ [] }
+    ensures back { unmarked (0x61 ∷ 0x10FFFF ∷ 0x62 ∷ []) ≡ 0x61 ∷ 0xFF ∷ 0x62 ∷ [] }
+    ensures joined { unmarked (0x10FFE2 ∷ 0x10FF82 ∷ 0x10FFAC ∷ []) ≡ 0xE2 ∷ 0x82 ∷ 0xAC ∷ [] }
+    ensures character { unmarked (0x20AC ∷ []) ≡ encode_utf8 0x20AC }
+    ensures last { is_mark 0x10FFFF ≡ true }
+    ensures none { is_mark 0x10FEFF ≡ false }
 {}
 
 /// What is no page, by its first bytes.

@@ -5,6 +5,7 @@ ghost use Rattle.tl_encoding.specs.Attributes.{after_attributes, tag_end, value_
 ghost use Rattle.tl_encoding.specs.Charset.{prescanned, said_within};
 ghost use Rattle.tl_encoding.specs.Decoders.{decoded, wrong_in};
 ghost use Rattle.tl_encoding.specs.Encoders.{appended, encoded, has_encoder};
+ghost use Rattle.tl_encoding.specs.Marks.{unmarked};
 ghost use Rattle.tl_encoding.specs.Runs.{after};
 ghost use Rattle.tl_encoding.specs.declared.encoding.Encoding.{Encoding};
 ghost use Rattle.tl_encoding.specs.declared.encoding.Encoding.TheVariants.{Utf8};
@@ -44,4 +45,11 @@ pub fn read_is_encoded()
 pub fn parts_are_encoded()
     ensures { (e : Encoding) (points more : List ℕ) →
         encoded e (points ++ more) ≡ appended (encoded e points) (encoded e more) }
+{}
+
+/// So are those of characters with marks.
+#[tactic(auto, using(crate::proofs::Unmarked::parts))]
+pub fn parts_are_unmarked()
+    ensures { (points more : List ℕ) →
+        unmarked (points ++ more) ≡ unmarked points ++ unmarked more }
 {}

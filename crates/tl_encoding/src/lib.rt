@@ -13,6 +13,7 @@ mod indexes;
 mod iso_2022_jp;
 mod labels;
 pub mod laws;
+mod marks;
 mod multi_byte;
 mod names;
 mod pairs;
@@ -26,6 +27,7 @@ pub use encoder::{EncodeError, encode, with_references};
 pub use encoding::{
     ByteOrder, Encoding, encoding_by_bytes, encoding_marked, encoding_of, encoding_said,
 };
+pub use marks::{with_marks, without_marks};
 pub use multi_byte::MultiByte;
 pub use signature::{Media, media_of};
 pub use single_byte::SingleByte;

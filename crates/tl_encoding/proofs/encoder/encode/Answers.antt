@@ -1,6 +1,5 @@
-use Rattle.std.proofs.Common.{◌≡◌, ◌∙◌, sym}
+use Rattle.std.proofs.Common.{◌∙◌, sym}
 use Rattle.std.proofs.lemmas.Str.{IsUtf8-past_char, chars_past_char}
-use Rattle.std.specs.Str.{chars}
 use Rattle.tl_encoding.proofs.Encoded.{ended, lacked, more, no_chars}
 use Rattle.tl_encoding.proofs.encoder.encode.Goals as goal
 

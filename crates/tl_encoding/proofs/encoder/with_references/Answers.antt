@@ -1,7 +1,5 @@
-use Rattle.std.proofs.Common.{◌≡◌, ◌∙◌, ap, append_assoc, append-nil, flat_map, sym}
+use Rattle.std.proofs.Common.{◌∙◌, append_assoc, append-nil, sym}
 use Rattle.std.proofs.lemmas.Str.{IsUtf8-past_char, chars_past_char}
-use Rattle.std.specs.Str.{chars}
-use Rattle.tl_encoding.specs.Encoders.{written}
 use Rattle.tl_encoding.proofs.Encoded.{no_chars}
 use Rattle.tl_encoding.proofs.encoder.with_references.Goals as goal
 
