@@ -5,9 +5,8 @@ import re
 
 from .workspace import ROOT, text_of
 
-LIST, DOCUMENT = "bindings/calls.txt", "docs/LIBRARY.md"
+LIST = "bindings/calls.txt"
 LANGUAGES = ("C", "Rust", "Python")
-HEAD = "| | C | Rust | Python |\n|---|---|---|---|\n"
 # A call of the header, also one that stands in it alone.
 OF_C = re.compile(r"(?m)^(?:static inline )?(?:const )?\w+ \*?(tl_\w+)\(")
 OF_RUST = re.compile(r"(?m)^impl(?:<[^>]*>)? (\w+)(?:<[^>]*>)? \{|^( *)pub fn (\w+)")
@@ -22,16 +21,6 @@ def rows():
 def names(cell):
     """The names of a cell."""
     return [it for it in re.sub(r"\([^)]*\)", "", cell).replace(",", " ").split() if it]
-
-
-def shown(cell):
-    """A cell as a document shows it."""
-    return ", ".join(it[1:-1] if it.startswith("(") else f"`{it}`" for it in re.findall(r"\([^)]*\)|[\w:.]+", cell))
-
-
-def table():
-    """The table of the document."""
-    return HEAD + "".join(f"| {row[0]} | " + " | ".join(map(shown, row[1:] or ("",) * 3)) + " |\n" for row in rows())
 
 
 def names_of_c():
@@ -72,13 +61,11 @@ def names_of_python():
 
 
 def faults():
-    """What a language lacks that the list has, and what it has that the list lacks; and a table that isn't that of the list."""
+    """What a language lacks that the list has, and what it has that the list lacks."""
     found = [f"{LIST}: {row[0]!r} has no call in one of {', '.join(LANGUAGES)}" for row in rows() if len(row) > 1 and (len(row) != 4 or not all(row))]
     there = (names_of_c(), names_of_rust(), names_of_python())
     for at, (language, own) in enumerate(zip(LANGUAGES, there), 1):
         listed = {name for row in rows() if len(row) == 4 for name in names(row[at])}
         found += [f"{LIST}: {language} has no {it}" for it in sorted(listed - own)]
         found += [f"{LIST}: it lacks {it}, which {language} has" for it in sorted(own - listed)]
-    if table() not in text_of(f"{ROOT}/{DOCUMENT}"):
-        found.append(f"{DOCUMENT}: the table of calls isn't that of {LIST}, which is\n{table()}")
     return found

@@ -7,8 +7,7 @@
   whether the code that they show stands in a source; whether the paths, commands and names between backticks are there.
 - Character references: whether each of the 2,231 is as Python has it (tools/references.py).
 - The README of each crate: whether there is one, and what it names is there (tools/readmes.py).
-- The three languages: whether C, Rust and Python have the calls that bindings/calls.txt lists and no other, and whether docs/LIBRARY.md
-  shows that list (tools/languages.py).
+- The three languages: whether C, Rust and Python have the calls that bindings/calls.txt lists and no other (tools/languages.py).
 - Words: whether documents, help and messages are written in those of docs/STYLE.md (tools/style.py).
 - Layout: whether each crate's sources are laid out as `rt fmt` lays them out.
 
