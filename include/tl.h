@@ -9,9 +9,9 @@
  * items. `*needed` is the number of items of the answer. What is returned is one of these:
  *
  *   TL_DONE            the answer stands in the first `*needed` items of `out`, and the rest of `out` is as it was
- *   TL_REFUSED         the selector is none, or what is asked for isn't there: no document, no such node, no such value; `*needed`
+ *   TL_REFUSED         the selector is invalid, or what is asked for isn't there: no document, no such node, no such value; `*needed`
  *                      is 0
- *   TL_NOT_UNDERSTOOD  an argument is no UTF-8, a page has more than 4294967295 bytes, its tree is out of proportion to it
+ *   TL_NOT_UNDERSTOOD  an argument is not valid UTF-8, a page has more than 4294967295 bytes, its tree is out of proportion to it
  *                      (`tl_parse_html` says when), or nothing that can be asked for is asked; `*needed` is 0
  *   TL_OUT_OF_MEMORY   memory ran out, or the numbers of 32 bits for the parts of a tree did; `*needed` is 0
  *   TL_NO_ROOM         the answer has `*needed` items, which is more than `room`: lend as many and call again
@@ -109,7 +109,7 @@ typedef struct {
     bool is_said;
 } tl_list;
 
-/* A policy of one's own: that of a number, with the lists that are said in the place of its own, as `tl sanitize` takes them. */
+/* A policy of one's own: that of a number, with the lists that are said instead of its own, as `tl sanitize` takes them. */
 typedef struct {
     tl_list tags;          /* the tags that may stand */
     tl_list keys;          /* the keys of attributes that may stand */
@@ -182,12 +182,12 @@ static inline const char *tl_reason_text(uint8_t reason) {
 }
 
 /* What a policy of these lists keeps of the page, which is read as above. Lists that are no policy are refused, and `*cause` says why;
- * else it is 0. A list that is no UTF-8, and another number of a policy, are not understood. */
+ * else it is 0. A list that is not valid UTF-8, and another number of a policy, are not understood. */
 tl_status tl_sanitize_html_with(const tl_lists *lists, const uint8_t *page, size_t page_len,
                                 uint8_t *out, size_t room, size_t *needed, uint8_t *cause);
 
 /* The options of `tl sanitize` that say these lists, one on each line, as "--tags a,b,p": so an app can show what a policy keeps, also
- * one that is there (TL_LISTS_OF). Whether the lists are a policy isn't looked at. A list that is no UTF-8, and another number of a
+ * one that is there (TL_LISTS_OF). Whether the lists are a policy isn't looked at. A list that is not valid UTF-8, and another number of a
  * policy, are not understood. */
 tl_status tl_list_options(const tl_lists *lists, uint8_t *out, size_t room, size_t *needed);
 
@@ -234,7 +234,7 @@ typedef struct {
  * and values are the characters that they say (`&lt;` is `<`), names of HTML elements and their keys are in lower case. A byte order
  * mark is no part of it.
  *
- * Isn't understood: a page that is no UTF-8, one of more than 4294967295 bytes, and one whose tree is out of proportion to it: in which
+ * Isn't understood: a page that is not valid UTF-8, one of more than 4294967295 bytes, and one whose tree is out of proportion to it: in which
  * more than four elements for each of its tags, comments and texts, and 65536 beside, are put in or opened again that no start tag
  * stands for. */
 tl_status tl_parse_html(const uint8_t *page, size_t page_len, tl_document *document);
@@ -255,15 +255,15 @@ tl_status tl_document_html(tl_document *document, uint8_t *out, size_t room, siz
 /* The same with a tag on each line where white space doesn't count, as `tl print --pretty`. */
 tl_status tl_document_pretty_html(tl_document *document, uint8_t *out, size_t room, size_t *needed);
 
-/* All nodes at once, for those who walk through a whole tree: of each node four numbers, in the order of the tree. They are its kind (TL_ELEMENT
+/* All nodes at once, for those who walk through a whole tree: of each node four numbers, in document order. They are its kind (TL_ELEMENT
  * ..), its namespace (TL_HTML ..), the number of the node that it stands in or TL_NO_NODE, and that behind the last node below it. */
 tl_status tl_nodes(tl_document *document, uint32_t *numbers, size_t room, size_t *needed);
 
-/* What stands in each node itself, in the order of the tree, and a byte 255 behind each, which no UTF-8 has: of a text and of a comment what
+/* What stands in each node itself, in document order, and a byte 255 behind each, which no UTF-8 has: of a text and of a comment what
  * they say; of an element its name, and its keys and values with a byte 0 before each, as "a\0href\0/x"; of others nothing. */
 tl_status tl_parts(tl_document *document, uint8_t *out, size_t room, size_t *needed);
 
-/* Each URL that an attribute of the document holds, as `tl links` lists them, in the order of the page: the number of the element, how many
+/* Each URL in an attribute of the document, as `tl links` lists them, in document order: the number of the element, how many
  * bytes the key and the URL have, each in 8 bytes with the lowest first; and the key and the URL. `tl_next_link` reads them. Of a `srcset`
  * each of its URLs is one. */
 tl_status tl_document_links(tl_document *document, uint8_t *out, size_t room, size_t *needed);
@@ -298,7 +298,7 @@ static inline bool tl_next_link(const uint8_t **at, const uint8_t *end, tl_link 
 
 /* Where a link leads from a base, by the URL standard: "https://a.b/c/d" from "https://a.b/c/" and "d". The base of a page is its own URL,
  * or, where it has a `base` with an `href`, where that leads from there. It is refused where the base is no URL, or the link is none from
- * there; a base that is no UTF-8 isn't understood. */
+ * there; a base that is not valid UTF-8 isn't understood. */
 tl_status tl_join_url(const uint8_t *base, size_t base_len, const uint8_t *link, size_t link_len,
                       uint8_t *out, size_t room, size_t *needed);
 
@@ -362,7 +362,7 @@ static inline const char *tl_error_message(tl_status status, uint8_t cause) {
     return cause == TL_NO_CAUSE ? tl_status_text(status) : tl_cause_text(cause);
 }
 
-/* The numbers of the elements where a selector of CSS holds (docs/COMMANDS.md says which are read), rising, without those in the
+/* The numbers of the elements that match a CSS selector (docs/COMMANDS.md says which are read), rising, without those in the
  * contents of a `template`. `:scope` is the root of the document. Where the bytes are no selector, which is refused, `*place` is the
  * first byte that is wrong and `*cause` says why; else both are 0. */
 tl_status tl_select_css(tl_document *document, const uint8_t *selector, size_t selector_len,
@@ -381,18 +381,18 @@ tl_status tl_node_select_css(tl_document *document, uint32_t node, const uint8_t
 tl_status tl_node_first_css(tl_document *document, uint32_t node, const uint8_t *selector, size_t selector_len,
                             uint32_t *number, size_t *place, uint8_t *cause);
 
-/* Whether a selector of CSS holds at a node: `*matches` is 1 where it does, and else 0, as at each node that is no element. `:scope` is
- * the node. Where there is no such node that is refused. A selector of a name, ids, classes and keys (`li.a[href]`) is asked of the node
+/* Whether a node matches a CSS selector: `*matches` is 1 if it does, and else 0, as at each node that is no element. `:scope` is
+ * the node. Where there is no such node that is refused. A selector of a type, ids, classes and attributes (`li.a[href]`) is asked of the node
  * alone, any other of the whole document: who asks that of many nodes asks tl_select_css once. */
 tl_status tl_node_matches_css(tl_document *document, uint32_t node, const uint8_t *selector, size_t selector_len,
                               uint8_t *matches, size_t *place, uint8_t *cause);
 
-/* Of a node and the elements that it stands in the innermost one where a selector of CSS holds. `:scope` is the node. Where it holds at
+/* Of a node and the elements that it stands in the innermost one that matches a CSS selector. `:scope` is the node. Where it holds at
  * none, and where there is no such node, that is refused with no cause, and `*number` is TL_NO_NODE. */
 tl_status tl_node_closest_css(tl_document *document, uint32_t node, const uint8_t *selector, size_t selector_len,
                               uint32_t *number, size_t *place, uint8_t *cause);
 
-/* What is done with the tags where a selector holds. */
+/* What is done with the tags that match a CSS selector. */
 enum {
     TL_SET = 0,  /* the key gets the value */
     TL_UNSET = 1 /* the key goes; the value isn't read, and its length may be 0 */
@@ -403,25 +403,25 @@ enum {
     TL_NO_START_TAG = 16,  /* the tokenizer by itself reads no start tag here, as in a `title` of an `svg` */
     TL_NOT_WRITTEN = 17,   /* this key or this value can't be written in the tag that begins here; keys are in lower case */
     TL_READ_OTHERWISE = 18, /* of tl_edit_css alone: the page would be read otherwise than asked */
-    TL_UNTAGGED = 24       /* the selector holds at an element that no tag stands for, as a `tbody` that browsers put in: the place is
+    TL_UNTAGGED = 24       /* the selector matches an element that no tag stands for, as a `tbody` that browsers put in: the place is
                               where begins what it was put in before */
 };
 
-/* The page with a key set or unset in the start tag of each element where a selector of CSS holds, and with each other byte as it was:
- * it isn't printed anew. The selector is asked of the tree that browsers build. Where it holds nowhere the answer is the page. Where the bytes are no
+/* The page with an attribute set or unset in the start tag of each element that matches a CSS selector, and with each other byte as it was:
+ * it isn't printed anew. The selector is asked of the tree that browsers build. If nothing matches the answer is the page. Where the bytes are no
  * selector, or a tag can't be changed, that is refused, and `*place` and `*cause` say why; else both are 0. */
 tl_status tl_patch_css(uint8_t edit, const uint8_t *selector, size_t selector_len,
                        const uint8_t *key, size_t key_len, const uint8_t *value, size_t value_len,
                        const uint8_t *page, size_t page_len,
                        uint8_t *out, size_t room, size_t *needed, size_t *place, uint8_t *cause);
 
-/* What is done with the elements where a selector holds. */
+/* What is done with the elements that match a CSS selector. */
 enum {
     TL_RENAME = 0,    /* the element gets the name that `content` is, in lower case; its attributes stay */
     TL_REMOVE = 1,    /* it goes */
     TL_UNWRAP = 2,    /* its tags go, and what is in it stays */
     TL_REPLACE = 3,   /* the content stands in its place */
-    TL_FILL = 4,      /* in the place of what is in it */
+    TL_FILL = 4,      /* instead of what is in it */
     TL_PREPEND = 5,   /* first in it */
     TL_APPEND = 6,    /* last in it */
     TL_PUT_BEFORE = 7, /* before it */
@@ -507,7 +507,7 @@ tl_status tl_node_source(tl_document *document, uint32_t node, size_t *start, si
 /* The name of an element: of HTML in lower case. It is refused where the node is none. It takes no memory. */
 tl_status tl_node_name(tl_document *document, uint32_t node, uint8_t *out, size_t room, size_t *needed);
 
-/* Its keys and values in the order of its tag: of each how many bytes the key and the value have, in 8 bytes with the lowest first; and
+/* Its attributes in the order of its tag: of each how many bytes the key and the value have, in 8 bytes with the lowest first; and
  * the key and the value. A key is as it is serialized (`xlink:href` in a `svg`), and each has a value, `hidden` the empty one. A node
  * that is no element has none. `tl_next_pair` reads them. That takes a time linear in what is written. */
 tl_status tl_node_attributes(tl_document *document, uint32_t node, uint8_t *out, size_t room, size_t *needed);

@@ -1,4 +1,4 @@
-/* What tests in other languages link in the place of the heap: one request of the library for memory is refused. */
+/* What tests in other languages link instead of the heap: one request of the library for memory is refused. */
 #include <stddef.h>
 #include <stdlib.h>
 

@@ -106,7 +106,7 @@ def error_of(status: int) -> Exception:
 
 
 def page_error_of(status: int, page: bytes) -> Exception:
-    """What such a status says of a page whose tree was asked for. Where that is no UTF-8, UnicodeDecodeError says where."""
+    """What such a status says of a page whose tree was asked for. Where that is not valid UTF-8, UnicodeDecodeError says where."""
     if status != NOT_UNDERSTOOD or len(page) > 4294967295:
         return error_of(status)
     try:

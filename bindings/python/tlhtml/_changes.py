@@ -10,8 +10,8 @@ from ._selectors import Selector, selector_bytes
 
 
 def set_attribute(html: str, selector: str | Selector, key: str, value: str) -> str:
-    """The page with a key set in the start tag of each element where a selector holds. No other byte is changed: not the doctype, quotes,
-    blanks, nor what browsers mend. Where the selector holds nowhere it is the page."""
+    """The page with an attribute set in the start tag of each element that matches a CSS selector. No other byte is changed: not the doctype, quotes,
+    blanks, nor what browsers mend. If nothing matches it is the page."""
     return _patched(0, html, selector, key, value)
 
 
@@ -33,7 +33,7 @@ def edit(
 ) -> str:
     """The page with each element changed where a selector holds. `what` is "rename" with a name, "remove", "unwrap", or one of "replace",
     "fill", "prepend", "append", "before" and "after" with a text, which is escaped, or with markup. No other byte is changed, and what
-    is read of the answer is the page with just that changed. Where the selector holds nowhere it is the page.
+    is read of the answer is the page with just that changed. If nothing matches it is the page.
 
     >>> edit("<!DOCTYPE html PUBLIC 'x'><P>one <B>two</B>", "b", "fill", text="3 < 4")
     "<!DOCTYPE html PUBLIC 'x'><P>one <B>3 &lt; 4</B>"

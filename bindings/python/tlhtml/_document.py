@@ -29,7 +29,7 @@ _BLANKS = " \t\n\f\r"
 
 
 class Link(NamedTuple):
-    """A URL that an attribute holds."""
+    """A URL in an attribute."""
 
     node: Node
     """The element."""
@@ -181,7 +181,7 @@ class Document:
         return None if number is None else Node(self, number)
 
     def select(self, selector: str | Selector) -> list[Node]:
-        """The elements where a selector of CSS holds, in the order of the page, without those in a `template`. `:scope` is the root."""
+        """The elements that match a CSS selector, in document order, without those in a `template`. `:scope` is the root."""
         return self._selected(lib.tl_select_css, selector)
 
     def select_one(self, selector: str | Selector) -> Node | None:
@@ -195,7 +195,7 @@ class Document:
 
     @property
     def nodes(self) -> list[Node]:
-        """All nodes, in the order of the page: each comes before what is below it."""
+        """All nodes, in document order: each comes before what is below it."""
         return [Node(self, number) for number in range(self._number(lib.tl_node_count))]
 
     @property
@@ -262,7 +262,7 @@ class Document:
         return self._text(lib.tl_document_pretty_html)
 
     def links(self, base: str | None = None) -> list[Link]:
-        """Each URL that an attribute of the page holds (`href`, `src`, `srcset` and all others that the HTML standard names), in the order of
+        """Each URL in an attribute of the page (`href`, `src`, `srcset` and all others that the HTML standard names), in the order of
         the page, as `tl links` has them. With the URL of the page as the base `target` says where each leads, also by way of the page's own
         `base`; a base that is no URL is a ValueError.
 
@@ -630,11 +630,11 @@ class Node:
 
     @property
     def descendants(self) -> Iterator[Node]:
-        """All nodes below it, in the order of the page; it is none of them."""
+        """All nodes below it, in document order; it is none of them."""
         return (Node(self.document, number) for number in range(self.number + 1, self.document._rows().ends[self.number]))
 
     def select(self, selector: str | Selector) -> list[Node]:
-        """The elements below it where a selector of CSS holds, in order, without those in a `template` below it. The selector is asked of
+        """The elements below it that match a CSS selector, in order, without those in a `template` below it. The selector is asked of
         the whole page, so it may name what stands around. `:scope` is the node, and `> li` is `:scope > li`.
 
         >>> items = Document("<ul><li>1<ul><li>2</ul></ul>").select_one("ul")
@@ -648,9 +648,9 @@ class Node:
         return self.document._selected_one(lib.tl_node_first_css, selector, self.number)
 
     def closest(self, selector: str | Selector) -> Node | None:
-        """Of it and the elements that it stands in the innermost one where a selector of CSS holds. `:scope` is the node."""
+        """Of it and the elements that it stands in the innermost one that matches a CSS selector. `:scope` is the node."""
         return self.document._selected_one(lib.tl_node_closest_css, selector, self.number)
 
     def matches(self, selector: str | Selector) -> bool:
-        """Whether a selector of CSS holds at it. All but one of a name, ids, classes and keys (`li.a[href]`) is asked of the whole page."""
+        """Whether it matches a CSS selector. All but one of a type, ids, classes and attributes (`li.a[href]`) is asked of the whole page."""
         return self.document._said(lib.tl_node_matches_css, selector, ctypes.c_uint8(), self.number) == 1

@@ -53,7 +53,7 @@ REASONS = {
 }
 
 
-# What to write in the place of pseudo-classes that browsers have, as `tl` says it.
+# What to write instead of pseudo-classes that browsers have, as `tl` says it.
 _NO_STATES = "a page has no states"
 PSEUDO_CLASSES = {
     **dict.fromkeys(("active", "focus", "focus-visible", "focus-within", "hover", "target", "visited"), _NO_STATES),

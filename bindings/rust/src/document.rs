@@ -105,7 +105,7 @@ impl Document {
         unsafe { calls::tl_is_quirks(&mut self.lent().handle) != 0 }
     }
 
-    /// The elements where a selector of CSS holds, in the order of the page, without those in a `template`. `:scope` is the root. A
+    /// The elements that match a CSS selector, in document order, without those in a `template`. `:scope` is the root. A
     /// selector is a text, or a [`Selector`](crate::Selector).
     pub fn select(&self, selector: impl AsRef<str>) -> Result<Select<'_>, Error> {
         let (at, len) = lent_text(selector.as_ref());
@@ -184,7 +184,7 @@ impl Document {
         self.children().find(|it| it.kind() == Kind::Element)
     }
 
-    /// All nodes, in the order of the page: each comes before what is below it.
+    /// All nodes, in document order: each comes before what is below it.
     pub fn nodes(
         &self,
     ) -> impl DoubleEndedIterator<Item = Node<'_>> + ExactSizeIterator + FusedIterator + Clone {
@@ -243,7 +243,7 @@ impl Document {
         .map_err(calls::error_of)
     }
 
-    /// Each URL that an attribute of the page holds (`href`, `src`, `srcset` and all others that the HTML standard names), in the order of
+    /// Each URL in an attribute of the page (`href`, `src`, `srcset` and all others that the HTML standard names), in the order of
     /// the page, as `tl links` has them. With the URL of the page as the base each link says where it leads, also by way of the page's own
     /// `base`; a base that is no URL is [`Error::NoUrl`].
     ///
@@ -305,7 +305,7 @@ pub(crate) fn selector_error_of(status: u8, place: usize, cause: u8) -> Error {
     }
 }
 
-/// The elements that a selector found, in the order of the page.
+/// The elements that a selector found, in document order.
 #[derive(Clone)]
 pub struct Select<'d> {
     document: &'d Document,

@@ -134,7 +134,7 @@ causes! {
     /// stands behind a `svg`, `math`, `frameset`, `template`, `noscript` or `select`: such a text
     /// would be put there, or the element would get such a name before such a text.
     Misread = 23, "a browser may read a raw text as markup there";
-    /// The selector holds at an element that no tag stands for, as a `tbody` that browsers put in.
+    /// The selector matches an element that no tag stands for, as a `tbody` that browsers put in.
     Untagged = 24, "this element has no tag in the page: browsers put it in here";
     /// An element isn't whole, so its tag alone can be changed: what begins here stands in the bytes
     /// that it has by its end tags, and not in it in the tree that browsers build, or the other way

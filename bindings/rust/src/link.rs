@@ -3,7 +3,7 @@ use crate::calls;
 use crate::document::lent_text;
 use crate::{Document, Error, Node};
 
-/// A URL that an attribute holds.
+/// A URL in an attribute.
 #[derive(Clone, Debug, PartialEq, Eq, Hash)]
 pub struct Link<'d> {
     /// The element.

@@ -54,7 +54,7 @@ impl<'d> Node<'d> {
         self.document.tree()
     }
 
-    /// Its number: nodes are counted from 0 in the order of the page.
+    /// Its number: nodes are counted from 0 in document order.
     pub fn number(self) -> u32 {
         self.number
     }
@@ -280,7 +280,7 @@ impl<'d> Node<'d> {
         successors(self.parent(), |it| it.parent())
     }
 
-    /// All nodes below it, in the order of the page; it is none of them.
+    /// All nodes below it, in document order; it is none of them.
     pub fn descendants(
         self,
     ) -> impl DoubleEndedIterator<Item = Node<'d>> + ExactSizeIterator + FusedIterator + Clone {
@@ -288,7 +288,7 @@ impl<'d> Node<'d> {
             .nodes_of(self.number + 1..self.tree().end(self.number))
     }
 
-    /// The elements below it where a selector of CSS holds, in order, without those in a `template` below it. The selector is asked of the
+    /// The elements below it that match a CSS selector, in order, without those in a `template` below it. The selector is asked of the
     /// whole page, so it may name what stands around. `:scope` is the node, and `> li` is `:scope > li`.
     ///
     /// ```
@@ -319,7 +319,7 @@ impl<'d> Node<'d> {
             })
     }
 
-    /// Of it and the elements that it stands in the innermost one where a selector of CSS holds. `:scope` is the node.
+    /// Of it and the elements that it stands in the innermost one that matches a CSS selector. `:scope` is the node.
     pub fn closest(self, selector: impl AsRef<str>) -> Result<Option<Node<'d>>, Error> {
         let (at, len) = lent_text(selector.as_ref());
         self.document
@@ -328,7 +328,7 @@ impl<'d> Node<'d> {
             })
     }
 
-    /// Whether a selector of CSS holds at it. All but one of a name, ids, classes and keys (`li.a[href]`) is asked of the whole page.
+    /// Whether it matches a CSS selector. All but one of a type, ids, classes and attributes (`li.a[href]`) is asked of the whole page.
     pub fn matches(self, selector: impl AsRef<str>) -> Result<bool, Error> {
         let (at, len) = lent_text(selector.as_ref());
         self.document.by_selector(|lent, place, cause| {

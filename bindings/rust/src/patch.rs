@@ -3,8 +3,8 @@ use crate::calls;
 use crate::{Cause, Error};
 use std::borrow::Cow;
 
-/// The page with a key set in the start tag of each element where a selector holds. No other byte is changed: not the doctype, quotes,
-/// blanks, nor what browsers mend. Where the selector holds nowhere it is the page.
+/// The page with an attribute set in the start tag of each element that matches a CSS selector. No other byte is changed: not the doctype, quotes,
+/// blanks, nor what browsers mend. If nothing matches it is the page.
 ///
 /// ```
 /// let page = "<!DOCTYPE html PUBLIC 'x'>\n<P><IMG SRC=a.png>3 < 4";
@@ -85,7 +85,7 @@ pub enum Edit<'c> {
     Unwrap,
     /// The content stands in its place.
     Replace(Content<'c>),
-    /// The content stands in the place of what is in it.
+    /// The content stands instead of what is in it.
     Fill(Content<'c>),
     /// The content stands first in it.
     Prepend(Content<'c>),
@@ -119,7 +119,7 @@ impl<'c> Edit<'c> {
 }
 
 /// The page with each element changed where a selector holds. No other byte is changed, and what is read of the answer is the page with
-/// just that changed. An element in what another takes away goes with it. Where the selector holds nowhere it is the page.
+/// just that changed. An element in what another takes away goes with it. If nothing matches it is the page.
 ///
 /// ```
 /// use tlhtml::{Content, Edit, edit};

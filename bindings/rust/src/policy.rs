@@ -30,7 +30,7 @@ pub fn sanitize_by(policy: Policy, page: &str) -> Result<String, Error> {
 }
 
 impl Policy {
-    /// Its lists, of which some may be said anew. A list that is said stands in the place of the policy's own; one that begins with `+`
+    /// Its lists, of which some may be said anew. A list that is said replaces the policy's own; one that begins with `+`
     /// or `-`, as "+img,-b", adds words to that and takes others away.
     ///
     /// ```
