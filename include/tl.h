@@ -557,6 +557,41 @@ tl_status tl_node_json(tl_document *document, uint32_t node, uint8_t *out, size_
  * not understood; `tl table` takes 65536, and 64 for each byte of the page. */
 tl_status tl_table_csv(tl_document *document, uint32_t node, size_t limit, uint8_t *out, size_t room, size_t *needed);
 
+/* A call that answers bytes of a node, as tl_node_text. */
+typedef tl_status tl_node_bytes(tl_document *document, uint32_t node, uint8_t *out, size_t room, size_t *needed);
+
+/* An allocator of one's own: room for so many bytes, or NULL; `context` is lent to it, as an arena. */
+typedef void *tl_allocate(void *context, size_t size);
+
+/* The bytes that such a call answers, in one block of an allocator of one's own, with a byte 0 behind them: into `*text`, and their number
+ * into `*len`. Where `*text` isn't NULL the block is the caller's, also where memory ran out while it was filled; then it says nothing. An
+ * answer of more than 256 bytes is made twice, first to see how long it is.
+ *
+ *     static void *of_heap(void *context, size_t size) { return (void)context, malloc(size); }
+ *     ..
+ *     if (tl_node_copy(tl_node_text, &document, node, of_heap, NULL, &text, &len) == TL_DONE) puts((char *)text);
+ *     free(text); */
+static inline tl_status tl_node_copy(tl_node_bytes *call, tl_document *document, uint32_t node, tl_allocate *allocate, void *context,
+                                     uint8_t **text, size_t *len) {
+    uint8_t few[256];
+    size_t needed = 0;
+    tl_status status = call(document, node, few, sizeof few, &needed);
+    *text = NULL;
+    *len = 0;
+    if (status != TL_DONE && status != TL_NO_ROOM) return status;
+    uint8_t *block = (uint8_t *)allocate(context, needed + 1);
+    if (block == NULL) return TL_OUT_OF_MEMORY;
+    if (status == TL_DONE) {
+        for (size_t at = 0; at < needed; at++) block[at] = few[at];
+    } else {
+        status = call(document, node, block, needed, &needed);
+    }
+    block[needed] = 0;
+    *text = block;
+    *len = needed;
+    return status;
+}
+
 /* The line of a place of the page, from 1, and into `*column` how many bytes stand before it there. */
 static inline size_t tl_line_at(const uint8_t *page, size_t place, size_t *column) {
     size_t line = 1;

@@ -398,6 +398,35 @@ static void of_tables(void) {
     tl_free(&document);
 }
 
+/* An allocator of one's own: so many bytes are left, and so many blocks were taken. */
+static size_t left_there, taken;
+
+static void *of_own(void *context, size_t size) {
+    taken += context == &taken;
+    return size <= left_there ? malloc(size) : NULL;
+}
+
+static void of_copies(void) {
+    static char long_page[2048];
+    tl_document document = TL_NO_DOCUMENT;
+    uint8_t *text;
+    size_t len;
+    memset(long_page, 'x', sizeof long_page);
+    memcpy(long_page, "<p>", 3);
+    left_there = 4096, taken = 0;
+    CHECK(tl_node_copy(tl_node_text, &document, 0, of_own, &taken, &text, &len) == TL_REFUSED && text == NULL && len == 0 && taken == 0);
+    CHECK(tl_parse_html((const uint8_t *)long_page, sizeof long_page, &document) == TL_DONE);
+    CHECK(tl_node_copy(tl_node_text, &document, 0, of_own, &taken, &text, &len) == TL_DONE && taken == 1);
+    CHECK(len == sizeof long_page - 3 && memcmp(text, long_page + 3, len) == 0 && text[len] == 0);
+    free(text);
+    CHECK(tl_node_copy(tl_node_name, &document, 3, of_own, &taken, &text, &len) == TL_DONE && taken == 2);
+    CHECK(len == 1 && strcmp((char *)text, "p") == 0);
+    free(text);
+    left_there = 1;
+    CHECK(tl_node_copy(tl_node_name, &document, 3, of_own, &taken, &text, &len) == TL_OUT_OF_MEMORY && text == NULL && len == 0);
+    tl_free(&document);
+}
+
 /* Where links lead, and what stands in the header alone. */
 static void of_no_document(void) {
     size_t column;
@@ -602,6 +631,7 @@ int main(void) {
         of_parts();
         of_tables();
         of_no_document();
+        of_copies();
     }
     out_of_proportion();
     refusals();

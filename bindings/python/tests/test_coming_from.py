@@ -1,4 +1,6 @@
 """Each row of COMING_FROM.md: what tlhtml answers, and what BeautifulSoup and lxml do, where they are there."""
+import copy
+import json
 import os
 import re
 import unittest
@@ -58,6 +60,31 @@ class Rows(unittest.TestCase):
         self.assertEqual(len(rows(text)), 33)
         if all(it is not None for it in others):
             self.assertEqual(tried, 62)
+
+
+class Tasks(unittest.TestCase):
+    def test_each(self):
+        with open(DOCUMENT, encoding="utf-8") as file:
+            text = file.read().partition("## Forty tasks")[2]
+        page = re.search(r"```html\n(.*?)```", text, re.DOTALL)[1]
+        names = {"tlhtml": tlhtml, "Document": tlhtml.Document, "document": tlhtml.Document(page), "page": page}
+        names |= {"re": re, "json": json, "copy": copy, "urljoin": urljoin}
+        if bs4:
+            names |= {"bs4": bs4, "soup": bs4.BeautifulSoup(page, "html5lib")}
+        if lxml:
+            names |= {"lxml": lxml, "tree": lxml.html.document_fromstring(page)}
+        found = re.findall(r"(?m)^\| (.+?) \| `(.+)` \| `(.+)` \|$", text)
+        tried = 0
+        for what, own, other in found:
+            with self.subTest(what):
+                answer = eval(own, names)
+                self.assertTrue(answer)
+                if ("soup" if "soup" in other else "tree") in names:
+                    self.assertEqual(eval(other, names), answer)
+                    tried += 1
+        self.assertEqual(len(found), 40)
+        if bs4 and lxml:
+            self.assertEqual(tried, 40)
 
 
 if __name__ == "__main__":

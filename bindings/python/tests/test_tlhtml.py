@@ -345,6 +345,19 @@ class Sources(unittest.TestCase):
                 Document(pathlib.Path(folder, "none"))
 
 
+class Around(unittest.TestCase):
+    def test_siblings_and_title(self):
+        document = Document("<title> a\n b </title><p>1<b>2</b><!--3-->4")
+        self.assertEqual(document.title, "a b")
+        self.assertIsNone(Document("<p>").title)
+        own = document.select_one("b")
+        self.assertEqual([it.kind for it in own.next_siblings], ["comment", "text"])
+        self.assertEqual([it.text for it in own.parent.first_child.next_siblings], ["2", "3", "4"])
+        self.assertEqual([it.text for it in list(own.parent.children)[3].previous_siblings], ["3", "2", "1"])
+        self.assertEqual(list(document.stripped_strings), ["a\n b", "1", "2", "4"])
+        self.assertEqual(list(own.stripped_strings), ["2"])
+
+
 class OwnSelectors(unittest.TestCase):
     def test_selectors_that_are_read_once(self):
         items = Selector("ul > li")

@@ -236,6 +236,21 @@ class Document:
         """What each text of the page says, as `Node.strings`."""
         return self.root.strings
 
+    @property
+    def stripped_strings(self) -> Iterator[str]:
+        """The same without white space around each, as `Node.stripped_strings`."""
+        return self.root.stripped_strings
+
+    @property
+    def title(self) -> str | None:
+        """What the `title` of the page says, with one space between words; None where there is none.
+
+        >>> Document("<title> Bread</title><svg><title>x</title></svg>").title
+        'Bread'
+        """
+        element = self.select_one("head > title")
+        return None if element is None else " ".join(element.text.split())
+
     def find_text(self, wanted: str | Pattern[str]) -> list[Node]:
         """The texts of the page that hold a text, as `Node.find_text`."""
         return self.root.find_text(wanted)
@@ -462,6 +477,11 @@ class Node:
         """What each text below it says, in order, without those in a `template` below it."""
         return (text for _, text in self._texts())
 
+    @property
+    def stripped_strings(self) -> Iterator[str]:
+        """The same without white space around each, and without those that are white space alone."""
+        return (it for it in map(str.strip, self.strings) if it)
+
     def _texts(self) -> Iterator[tuple[int, str]]:
         """The numbers of the texts below it, and what each says; a text and a comment have themselves."""
         rows, parts = self.document._rows(), self.document._all_parts().parts
@@ -621,6 +641,20 @@ class Node:
     def previous_sibling(self) -> Node | None:
         """The node before it there. That takes a time linear in how deep the tree is."""
         return self._linked(self.document._rows().previous_sibling(self.number))
+
+    @property
+    def next_siblings(self) -> Iterator[Node]:
+        """Those behind it there, in order."""
+        rows = self.document._rows()
+        return (Node(self.document, number) for number in rows.siblings(rows.ends[self.number], rows.end(self.number)))
+
+    @property
+    def previous_siblings(self) -> Iterator[Node]:
+        """Those before it there, from the nearest on."""
+        at = self.previous_sibling
+        while at is not None:
+            yield at
+            at = at.previous_sibling
 
     @property
     def children(self) -> Iterator[Node]:

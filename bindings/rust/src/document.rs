@@ -204,6 +204,27 @@ impl Document {
         Texts::new(self, 0..self.tree.len() as u32)
     }
 
+    /// What the `title` of the page says, with one space between words.
+    ///
+    /// ```
+    /// let document = tlhtml::Document::parse("<title> Bread</title>")?;
+    /// assert_eq!(document.title()?.as_deref(), Some("Bread"));
+    /// # Ok::<(), tlhtml::Error>(())
+    /// ```
+    pub fn title(&self) -> Result<Option<String>, Error> {
+        let Some(title) = self.first("head > title")? else {
+            return Ok(None);
+        };
+        let mut said = String::new();
+        for word in title.text().flat_map(str::split_whitespace) {
+            let space = if said.is_empty() { "" } else { " " };
+            said.try_reserve(space.len() + word.len())
+                .map_err(|_| Error::OutOfMemory)?;
+            said.extend([space, word]);
+        }
+        Ok(Some(said))
+    }
+
     /// The text of the page as a browser shows it without style sheets, as `tl text -w` has it: blocks on lines of their own, one space
     /// between words, without scripts and styles.
     ///

@@ -141,6 +141,11 @@ impl<'d> Node<'d> {
         }
     }
 
+    /// The same without white space around each, and without those that are white space alone.
+    pub fn stripped_text(self) -> impl Iterator<Item = &'d str> + Clone {
+        self.text().map(str::trim).filter(|it| !it.is_empty())
+    }
+
     /// The texts below it that hold a text, in order, without those in a `template` below it.
     pub fn find_text(self, wanted: &str) -> impl Iterator<Item = Node<'d>> {
         self.text()
@@ -263,6 +268,16 @@ impl<'d> Node<'d> {
     /// The node before it there. That takes a time linear in how deep the tree is.
     pub fn prev_sibling(self) -> Option<Node<'d>> {
         self.linked(self.tree().previous_sibling(self.number))
+    }
+
+    /// Those behind it there, in order.
+    pub fn next_siblings(self) -> impl FusedIterator<Item = Node<'d>> + Clone {
+        successors(self.next_sibling(), |it| it.next_sibling())
+    }
+
+    /// Those before it there, from the nearest on.
+    pub fn prev_siblings(self) -> impl FusedIterator<Item = Node<'d>> + Clone {
+        successors(self.prev_sibling(), |it| it.prev_sibling())
     }
 
     // The node of a number, if there is one.
