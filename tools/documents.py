@@ -99,6 +99,7 @@ def faults():
         if not reason:
             yield f"{BY_HAND}: {key[0]}: $ {key[1]}: it has no reason"
     yield from code_faults()
+    yield from link_faults()
     yield from name_faults()
 
 
@@ -116,6 +117,23 @@ def code_faults():
             yield f"README.md: its first block of {language} doesn't stand in that of {place}"
     if block_of("docs/CALLING.md", "rust") != new.SOURCE:
         yield "docs/CALLING.md: its first block of rust isn't SOURCE of tools/commands/new.py"
+
+
+def anchors(text):
+    """What a link within a document may lead to: its headings, as they are written in addresses."""
+    headings = (re.sub(r"[^\w -]", "", it.lower()) for it in re.findall(r"(?m)^#+ (.*)$", text))
+    return {it.replace(" ", "-") for it in headings}
+
+
+def link_faults():
+    """Links of documents to files and headings that aren't there."""
+    for document in documents():
+        text = text_of(f"{ROOT}/{document}")
+        for link in re.findall(r"\]\(([^)\s]+)\)", re.sub(r"`[^`\n]*`", "", text)):
+            file, _, heading = link.partition("#")
+            path = os.path.normpath(f"{ROOT}/{os.path.dirname(document)}/{file}") if file else f"{ROOT}/{document}"
+            if "://" not in link and (not os.path.exists(path) or heading and heading not in anchors(text_of(path))):
+                yield f"{document}: the link {link} leads nowhere"
 
 
 def files_there():

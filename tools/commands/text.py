@@ -4,7 +4,7 @@
 
 - Documents: whether each command that README.md, docs/*.md and other documents show after a `$` stands in a transcript with the
   output that is shown (`./x tlq` for `tlq`, `./x try NAME` for NAME), or in tests/by_hand.list, with the reason why nothing runs it;
-  whether the code that they show stands in a source; whether the paths, commands and names between backticks are there.
+  whether the code that they show stands in a source; whether links lead somewhere, and the paths, commands and names between backticks are there.
 - Character references: whether each of the 2,231 is as Python has it (tools/references.py).
 - The README of each crate: whether there is one, and what it names is there (tools/readmes.py).
 - The three languages: whether C, Rust and Python have the calls that bindings/calls.txt lists and no other (tools/languages.py).
