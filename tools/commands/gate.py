@@ -3,7 +3,8 @@
     ./x gate              all parts, in this order; ends at the first that fails
     ./x gate PART..       these alone, as ./x gate wants mutants
 
-    text         what documents and READMEs show and name is there, references are the standard's, and the sources are laid out
+    text         what documents and READMEs show and name is there, in the words of docs/STYLE.md, references are the standard's, and the
+                 sources are laid out
     widths       no line of a definition, a clause or a comment is too wide
     wants        want of memory is made up nowhere, and ./x wants reads its samples as what they are
     mutants      all mutants still fit the texts that they change
