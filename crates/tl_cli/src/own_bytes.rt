@@ -7,11 +7,13 @@ use crate::pages::encoding_in;
 use crate::task::{Task, Unmade, execute};
 use std::alloc::{AllocError, Global};
 use std::fmt;
-use tl_answers::Question;
+use tl_answers::{Edit, Question, Refusal, edited_page};
+use tl_css::Selector;
 use tl_encoding::{
-    DecodeError, EncodeError, Encoding, decode_strict, encode, encoding_said, with_references,
+    DecodeError, EncodeError, Encoding, decode, decode_strict, encode, encoding_said, with_marks,
+    with_references, without_marks,
 };
-use tl_page::Failure;
+use tl_page::{Failure, text};
 
 /// Why a page isn't edited.
 #[derive(Clone, Copy)]
@@ -28,6 +30,8 @@ pub enum Uneditable {
     /// What is put has a character that the encoding lacks, and it can't be told what is read of
     /// a reference.
     Unread(Unmade),
+    /// Bytes that are no UTF-8 would be read otherwise than the edited text has it.
+    Joined,
 }
 
 impl fmt::Display for Uneditable {
@@ -56,6 +60,9 @@ impl fmt::Display for Uneditable {
                 "what is put is no ASCII, and the page says another encoding than UTF-8",
             ),
             Uneditable::Unread(_) => f.write_str("what is put can't be read in the page"),
+            Uneditable::Joined => f.write_str(
+                "bytes that are no UTF-8 would be read otherwise; --strict of tl text says where",
+            ),
         }
     }
 }
@@ -73,6 +80,8 @@ impl From<AllocError> for Uneditable {
 pub struct Editable {
     pub encoding: Encoding,
     pub text: String,
+    /// The text with a mark for each byte that is wrong, of a page in UTF-8 that has some.
+    pub marked: Option<String>,
 }
 
 // Whether a page's bytes can be changed where its text is. Of encodings of several bytes only those
@@ -84,7 +93,21 @@ fn can_change(encoding: Encoding, page: &[u8]) -> bool {
     }
 }
 
-/// The text of a page that is edited, of which no byte is wrong.
+// The text of a page with marks, where it is in UTF-8 and some of its bytes are wrong.
+fn marked_text(
+    alloc: Global,
+    pages: &Pages<'_>,
+    encoding: Encoding,
+    page: &[u8],
+) -> Result<Option<String>, AllocError> {
+    if encoding != Encoding::Utf8 || pages.is_strict || std::str::from_utf8(page).is_ok() {
+        return Ok(None);
+    }
+    with_marks(alloc, page)
+}
+
+/// The text of a page that is edited. Bytes that are wrong are refused, but those of a page in
+/// UTF-8 that has no marks itself.
 pub fn to_be_edited(
     alloc: Global,
     pages: &Pages<'_>,
@@ -94,8 +117,21 @@ pub fn to_be_edited(
     if !can_change(encoding, &page) {
         return Err(Uneditable::NotChanged(encoding));
     }
+    let marked = marked_text(alloc, pages, encoding, &page)?;
+    if marked.is_some() {
+        let text = decode(alloc, page, encoding)?;
+        return Ok(Editable {
+            encoding,
+            text,
+            marked,
+        });
+    }
     match decode_strict(alloc, page, encoding) {
-        Ok(text) => Ok(Editable { encoding, text }),
+        Ok(text) => Ok(Editable {
+            encoding,
+            text,
+            marked,
+        }),
         Err(DecodeError::OutOfMemory) => Err(Uneditable::OutOfMemory),
         Err(error) => Err(Uneditable::Undecoded(error)),
     }
@@ -137,6 +173,29 @@ pub fn own_bytes(alloc: Global, encoding: Encoding, page: &str) -> Result<Vec<u8
         Ok(bytes) => Ok(bytes),
         Err(EncodeError::OutOfMemory) => Err(Uneditable::OutOfMemory),
         Err(EncodeError::NoCharacter(lacking)) => referenced(alloc, encoding, page, lacking),
+    }
+}
+
+/// The bytes of a page in UTF-8 with changes, of which some are wrong: the same changes are made of
+/// its text with marks, and what comes of that has to be read as the edited text.
+pub fn marked_bytes(
+    alloc: Global,
+    edit: &Edit<'_>,
+    selector: &Selector,
+    marked: &str,
+    edited: &str,
+) -> Result<Vec<u8>, Uneditable> {
+    let patched = match edited_page(alloc, edit, selector, marked.as_bytes()) {
+        Ok(patched) => patched,
+        Err(Refusal::OutOfMemory) => return Err(Uneditable::OutOfMemory),
+        Err(_) => return Err(Uneditable::Joined),
+    };
+    let Ok(own) = text(patched.bytes.as_slice()) else {
+        return Err(Uneditable::Joined);
+    };
+    match without_marks(alloc, own, edited)? {
+        Some(bytes) => Ok(bytes),
+        None => Err(Uneditable::Joined),
     }
 }
 

@@ -6,7 +6,9 @@ use crate::args::Pages;
 use crate::crossed::Crossed;
 use crate::in_place::replace;
 use crate::misread::Misread;
-use crate::own_bytes::{Editable, Uneditable, failure_of, is_misread, own_bytes, to_be_edited};
+use crate::own_bytes::{
+    Editable, Uneditable, failure_of, is_misread, marked_bytes, own_bytes, to_be_edited,
+};
 use crate::pages::{
     STANDARD_INPUT, no_text, not_understood, page_of, report, report_error, report_failure, unmade,
     unwritten, write,
@@ -194,10 +196,23 @@ fn put_patched(
     if is_misread(page, edited) {
         return unedited(rt, file, Uneditable::Misread);
     }
-    if page.encoding == Encoding::Utf8 {
-        return Ok(put(rt, patching, file, page, patched, edited.as_bytes())?);
-    }
-    match own_bytes(rt.alloc(), page.encoding, edited) {
+    let made = match &page.marked {
+        None if page.encoding == Encoding::Utf8 => {
+            return Ok(put(rt, patching, file, page, patched, edited.as_bytes())?);
+        }
+        None => own_bytes(rt.alloc(), page.encoding, edited),
+        Some(marked) => {
+            let marked = marked.as_str();
+            marked_bytes(
+                rt.alloc(),
+                &patching.edit,
+                &patching.selector,
+                marked,
+                edited,
+            )
+        }
+    };
+    match made {
         Ok(bytes) => Ok(put(rt, patching, file, page, patched, bytes.as_slice())?),
         Err(error) => unedited(rt, file, error),
     }
