@@ -583,9 +583,30 @@ as the same tree by it. A page with bytes that are wrong isn't changed.
   $ printf '<meta charset=latin1><p>a' | tl set --encoding auto p k 'é'
   tl: -: what is put is no ASCII, and the page says another encoding than UTF-8 (err)
   [2]
-  $ printf '<p>\377' | tl set p k v
+  $ printf '<p>\377' | tl set p k v | LC_ALL=C sed -n l
+  <p k="v">\377$
+  $ printf '<p>\377<b>\303\251\303</b>\360\237\230<i>\342\202</i>' | tl set b k 'é' | LC_ALL=C sed -n l
+  <p>\377<b k="\303\251">\303\251\303</b>\360\237\230<i>\342\202</i>$
+  $ printf '<p>\342\202<b>\377</b>\300' | tl remove b | LC_ALL=C sed -n l
+  <p>\342\202\300$
+  $ printf '<p>\342\202<b>x</b>\254' | tl remove b
+  tl: -: bytes that are no UTF-8 would be read otherwise by this change (err)
+  [2]
+  $ printf '<p>\342\202<b>x</b>\254' | tl unwrap b | LC_ALL=C sed -n l
+  <p>\342\202x\254$
+  $ printf '<p title="\377">a' | tl set '[title="\FFFD"]' k v
+  tl: -: bytes that are no UTF-8 would be read otherwise by this change (err)
+  [2]
+  $ printf '<p>\377' | tl set p k "$(printf '\364\217\277\277')"
+  tl: -: bytes that are no UTF-8 would be read otherwise by this change (err)
+  [2]
+  $ printf '<p>\377\364\217\277\277' | tl set p k v
   tl: -: no UTF-8 at byte 3; --encoding names the encoding (err)
   [2]
+  $ printf '<p>\377<p>\376' > wrong.html
+  $ tl set -i p k v wrong.html
+  $ LC_ALL=C sed -n l wrong.html
+  <p k="v">\377<p k="v">\376$
   $ printf '<meta charset=windows-1253><p>\252' | tl set p k v
   tl: -: no character at byte 30; --encoding names the encoding (err)
   [2]
