@@ -79,7 +79,7 @@ FIRST_PLANE, POINTERS = 39421, 1237576
 TELLING = bytes(range(0x80, 0x100))
 # Pages begin so, that all that follows is text.
 FRONT = "<plaintext>"
-BATCH = 40
+BATCH = 400
 # Of UTF-16: characters, and both kinds of surrogates.
 UNITS = (0x41, 0xE9, 0x20AC, 0xFFFD, 0xFFFE, 0xD800, 0xD83D, 0xDBFF, 0xDC00, 0xDE00, 0xDFFF, 0xE000, 0xD7FF)
 # Of UTF-8: bytes at the bounds of what may stand first, second and later.
