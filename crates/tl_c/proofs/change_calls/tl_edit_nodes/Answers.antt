@@ -22,7 +22,7 @@ returns-clause-done c = λ is_done.
 
 pub returns-clause-refused : goal.returns-clause-refused
 returns-clause-refused c = λ one.
-    subst (λ held. AreHeldNotDone c.args.edits.now held c.args.page.now _ _) c.replace-held.ensures.replaced
+    subst (λ held. AreHeldNotDone c.args.edits.now held c.args.page.now c.edit_held-edited.new.place c.edit_held-edited.new.cause) c.replace-held.ensures.replaced
     (c.edit_held-edited.ensures.refused (c.copy_result.ensures.refused.0 one))
 
 pub returns-clause-understood : goal.returns-clause-understood

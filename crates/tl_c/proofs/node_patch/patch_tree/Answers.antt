@@ -8,8 +8,8 @@ returns-in-Ok-clause-made c = record {
   patched = c.in-Ok.ensures.patched;
 }
 
-pub returns-clause-refused : goal.returns-clause-refused
-returns-clause-refused c = λ is_refused.
+pub returns-in-Err-clause-refused : goal.returns-in-Err-clause-refused
+returns-in-Err-clause-refused c = λ is_refused.
     let same : c.report.result ≡ Refused = cc in
     record {
       error = c.in-Err.error;
@@ -19,7 +19,7 @@ returns-clause-refused c = λ is_refused.
       why = c.report.ensures.cause;
     }
 
-pub returns-clause-understood : goal.returns-clause-understood
-returns-clause-understood c = λ lost.
+pub returns-in-Err-clause-understood : goal.returns-in-Err-clause-understood
+returns-in-Err-clause-understood c = λ lost.
     let same : c.report.result ≡ NotUnderstood = cc in
     c.report.ensures.understood same
