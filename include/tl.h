@@ -17,7 +17,7 @@
  *   TL_NO_ROOM         the answer has `*needed` items, which is more than `room`: lend as many and call again
  *
  * With all but TL_DONE `out` is as it was. But for TL_OUT_OF_MEMORY what is lent, `room` and the document determine all of it: this is proved,
- * for all bytes and each document that the calls made. Of `tl_patch_css` and `tl_edit_css` it is proved what they write, and that a
+ * for all bytes and each document that the calls made. Of `tl_patch_css`, `tl_edit_css`, `tl_patch_nodes` and `tl_edit_nodes` it is proved what they write, and that a
  * reason for which they write nothing holds.
  *
  * Lengths     are in bytes, also of texts. Nothing ends with a byte 0, and texts may hold some.
@@ -368,6 +368,22 @@ static inline const char *tl_error_message(tl_status status, uint8_t cause) {
 tl_status tl_select_css(tl_document *document, const uint8_t *selector, size_t selector_len,
                         uint32_t *numbers, size_t room, size_t *needed, size_t *place, uint8_t *cause);
 
+/* The values at a key of these elements, in order, with a byte 255 behind each, which no UTF-8 has; an element without the key has none.
+ * Keys are compared as with tl_attribute. `tl_next_value` reads them. */
+tl_status tl_select_values(tl_document *document, const uint8_t *selector, size_t selector_len, const uint8_t *key, size_t key_len,
+                           uint8_t *out, size_t room, size_t *needed, size_t *place, uint8_t *cause);
+
+/* Reads the value at a place of an answer of `tl_select_values` and moves the place behind it; false at the end:
+ * for (const uint8_t *at = out; tl_next_value(&at, out + needed, &value, &len);) .. */
+static inline bool tl_next_value(const uint8_t **at, const uint8_t *end, const uint8_t **value, size_t *len) {
+    *value = *at;
+    if (*at == end) return false;
+    while (**at != 255) *at += 1;
+    *len = (size_t)(*at - *value);
+    *at += 1;
+    return true;
+}
+
 /* The first of them alone. Where there is none that is refused with no cause, and `*number` is TL_NO_NODE. */
 tl_status tl_first_css(tl_document *document, const uint8_t *selector, size_t selector_len,
                        uint32_t *number, size_t *place, uint8_t *cause);
@@ -392,6 +408,32 @@ tl_status tl_node_matches_css(tl_document *document, uint32_t node, const uint8_
 tl_status tl_node_closest_css(tl_document *document, uint32_t node, const uint8_t *selector, size_t selector_len,
                               uint32_t *number, size_t *place, uint8_t *cause);
 
+/* A selector of CSS that is read once, and asked of any number of documents. What `at` leads to is the library's. */
+typedef struct {
+    void *at;
+} tl_compiled;
+
+#define TL_NO_COMPILED {NULL}
+
+/* Reads a selector, which may begin with a combinator, into `compiled`, and gives back what that held before. With a status but TL_DONE it
+ * holds that still. Where the bytes are no selector, which is refused, `*place` is the first byte that is wrong and `*cause` says why; else
+ * both are 0. What a caller owes a `tl_document` it owes a `tl_compiled` too. */
+tl_status tl_compile_css(const uint8_t *selector, size_t selector_len, tl_compiled *compiled, size_t *place, uint8_t *cause);
+
+/* Gives its memory back, and leaves TL_NO_COMPILED there; called again it does nothing. */
+void tl_free_compiled(tl_compiled *compiled);
+
+/* What tl_select_css, tl_first_css, tl_node_select_css, tl_node_first_css, tl_node_matches_css and tl_node_closest_css answer, by a selector
+ * that was read. A combinator that it begins with leads from the root of the document, or from the node. Without a selector that is
+ * refused. */
+tl_status tl_compiled_select(tl_document *document, tl_compiled *compiled, uint32_t *numbers, size_t room, size_t *needed);
+tl_status tl_compiled_first(tl_document *document, tl_compiled *compiled, uint32_t *number);
+tl_status tl_compiled_select_below(tl_document *document, uint32_t node, tl_compiled *compiled, uint32_t *numbers, size_t room,
+                                   size_t *needed);
+tl_status tl_compiled_first_below(tl_document *document, uint32_t node, tl_compiled *compiled, uint32_t *number);
+tl_status tl_compiled_matches(tl_document *document, uint32_t node, tl_compiled *compiled, uint8_t *matches);
+tl_status tl_compiled_closest(tl_document *document, uint32_t node, tl_compiled *compiled, uint32_t *number);
+
 /* What is done with the tags that match a CSS selector. */
 enum {
     TL_SET = 0,  /* the key gets the value */
@@ -414,6 +456,26 @@ tl_status tl_patch_css(uint8_t edit, const uint8_t *selector, size_t selector_le
                        const uint8_t *key, size_t key_len, const uint8_t *value, size_t value_len,
                        const uint8_t *page, size_t page_len,
                        uint8_t *out, size_t room, size_t *needed, size_t *place, uint8_t *cause);
+
+/* A change of the start tag of a node, by its number: TL_SET or TL_UNSET. */
+typedef struct {
+    const uint8_t *key;
+    size_t key_len;
+    const uint8_t *value; /* of TL_UNSET it isn't read */
+    size_t value_len;
+    uint32_t node;
+    uint8_t change;
+} tl_change;
+
+/* The page of a document with these changes of the start tags of its nodes, in any order, and with each other byte as it was: so a
+ * value can be made of the old one, for each node by itself, and the page is neither read nor written once more for each. `page` is the
+ * page that was read into the document, which isn't looked at: of another page the answer is one with these changes at other tags, or a
+ * refusal. Several changes of one tag are made one after the other; a start tag that stands for several nodes, as that of formatting
+ * that is opened again, has a change of each. A node that no tag stands for can't get a key, and has none that could go. Where a tag
+ * can't be changed, that is refused, and `*place` and `*cause` say why, as with tl_patch_css; else both are 0. Another number of a
+ * change is not understood. */
+tl_status tl_patch_nodes(tl_document *document, const uint8_t *page, size_t page_len, const tl_change *changes, size_t count,
+                         uint8_t *out, size_t room, size_t *needed, size_t *place, uint8_t *cause);
 
 /* What is done with the elements that match a CSS selector. */
 enum {
@@ -459,6 +521,22 @@ tl_status tl_edit_css(uint8_t edit, uint8_t form, const uint8_t *selector, size_
                       const uint8_t *content, size_t content_len,
                       const uint8_t *page, size_t page_len,
                       uint8_t *out, size_t room, size_t *needed, size_t *place, uint8_t *cause);
+
+/* A patch of the element that is a node, by its number: what tl_edit_css does by these numbers and with this content. */
+typedef struct {
+    const uint8_t *content;
+    size_t content_len;
+    uint32_t node;
+    uint8_t edit; /* TL_RENAME .. TL_PUT_AFTER */
+    uint8_t form; /* TL_AS_TEXT or TL_AS_MARKUP */
+} tl_edit;
+
+/* The page of a document with these patches of the elements that are its nodes, in any order, and with each other byte as it was; `page`
+ * is that which was read, as with tl_patch_nodes. Several patches of one element are made in their order, where they don't cut across
+ * each other. Tags are changed by tl_patch_nodes alone, in a pass of its own. Where an element can't be changed, that is refused, and
+ * `*place` and `*cause` say why, as with tl_edit_css; else both are 0. Other numbers of a patch are not understood. */
+tl_status tl_edit_nodes(tl_document *document, const uint8_t *page, size_t page_len, const tl_edit *edits, size_t count,
+                        uint8_t *out, size_t room, size_t *needed, size_t *place, uint8_t *cause);
 
 /* Of a node. Where there is no such node, all that answer a status are refused. */
 

@@ -398,6 +398,126 @@ static void of_tables(void) {
     tl_free(&document);
 }
 
+/* The values at a key of the elements where a selector holds. */
+static void of_values(void) {
+    static const char lent[] = "<a href='?a=1&amp;b'>1</a><a>2</a><A HREF=''>3</A><svg><a xlink:href=x>";
+    tl_document document = TL_NO_DOCUMENT;
+    size_t place = 99, len;
+    uint8_t cause = 99;
+    const uint8_t *at = out, *value;
+#define VALUES(selector, key) tl_select_values(&document, BYTES(selector), BYTES(key), OUT, &place, &cause)
+    LEAVES(VALUES("a", "href"), TL_REFUSED, 0);
+    CHECK(place == 0 && cause == TL_NO_CAUSE);
+    CHECK(tl_parse_html(BYTES(lent), &document) == TL_DONE);
+    CHECK(VALUES("a", "href") == TL_DONE && needed == 8);
+    CHECK(tl_next_value(&at, out + needed, &value, &len) && len == 6 && memcmp(value, "?a=1&b", 6) == 0);
+    CHECK(tl_next_value(&at, out + needed, &value, &len) && len == 0 && !tl_next_value(&at, out + needed, &value, &len));
+    CHECK(is_rest(needed));
+    PUTS(VALUES("a", "href"), "?a=1&b\377\377");
+    PUTS(VALUES("svg a", "xlink:href"), "x\377");
+    PUTS(VALUES("a", "HREF"), "");
+    PUTS(VALUES("i", "href"), "");
+    CHECK(place == 0 && cause == TL_NO_CAUSE);
+    LEAVES(VALUES("a:hover", "href"), TL_REFUSED, 0);
+    CHECK(place == 2 && cause == TL_NO_PSEUDO_CLASS);
+    LEAVES(VALUES("\xff", "href"), TL_NOT_UNDERSTOOD, 0);
+    LEAVES(tl_select_values(&document, BYTES("a"), BYTES("href"), out, 7, &needed, &place, &cause), TL_NO_ROOM, 8);
+#undef VALUES
+    tl_free(&document);
+}
+
+/* Tags and elements changed, each by a change of its own. */
+static const char own[] = "<DIV>1<A HREF=/x b>2</A></DIV><table><tr><td>3</table>";
+static size_t at_place;
+static uint8_t why;
+#define CHANGE(key, value, node, change) {(const uint8_t *)(key), sizeof(key) - 1, (const uint8_t *)(value), sizeof(value) - 1, node, change}
+#define PATCHES(document, changes) \
+    tl_patch_nodes((document), BYTES(own), (changes), sizeof(changes) / sizeof *(changes), OUT, &at_place, &why)
+#define EDIT(content, node, edit, form) {(const uint8_t *)(content), sizeof(content) - 1, node, edit, form}
+#define EDITS(document, edits) tl_edit_nodes((document), BYTES(own), (edits), sizeof(edits) / sizeof *(edits), OUT, &at_place, &why)
+#define TOLD(place, cause) CHECK(at_place == (place) && why == (cause))
+
+/* (0 is the html, 3 the division, 5 the link, 7 the table, 8 its body, 9 the row, 10 the cell) */
+static void of_changes(void) {
+    tl_document document = TL_NO_DOCUMENT;
+    const tl_change changes[] = {CHANGE("c", "&", 10, TL_SET), CHANGE("href", "/y", 5, TL_SET), CHANGE("b", "", 5, TL_UNSET),
+                                 CHANGE("d", "1", 5, TL_SET), CHANGE("a", "", 8, TL_UNSET)};
+    const tl_change untagged[] = {CHANGE("c", "", 3, TL_SET), CHANGE("a", "", 8, TL_SET)};
+    const tl_change unwritten[] = {CHANGE("a b", "", 5, TL_SET)}, of_text[] = {CHANGE("a", "", 4, TL_SET)}, none[] = {CHANGE("a", "", 3, 2)};
+    LEAVES(PATCHES(&document, changes), TL_REFUSED, 0);
+    TOLD(0, TL_NO_CAUSE);
+    CHECK(tl_parse_html(BYTES(own), &document) == TL_DONE);
+    PUTS(PATCHES(&document, changes), "<DIV>1<A d=\"1\" HREF=\"/y\">2</A></DIV><table><tr><td c=\"&amp;\">3</table>");
+    TOLD(0, TL_NO_CAUSE);
+    LEAVES(PATCHES(&document, untagged), TL_REFUSED, 0);
+    TOLD(37, TL_UNTAGGED);
+    LEAVES(PATCHES(&document, unwritten), TL_REFUSED, 0);
+    TOLD(6, TL_NOT_WRITTEN);
+    LEAVES(PATCHES(&document, of_text), TL_REFUSED, 0);
+    TOLD(5, TL_NO_START_TAG);
+    LEAVES(PATCHES(&document, none), TL_NOT_UNDERSTOOD, 0);
+    TOLD(0, TL_NO_CAUSE);
+    CHECK(put(tl_patch_nodes(&document, BYTES(own), changes, 0, OUT, &at_place, &why), own, sizeof own - 1));
+    LEAVES(tl_patch_nodes(&document, BYTES(own), changes, 0, out, 53, &needed, &at_place, &why), TL_NO_ROOM, 54);
+    tl_free(&document);
+}
+
+static void of_edits(void) {
+    tl_document document = TL_NO_DOCUMENT;
+    const tl_edit edits[] = {EDIT("<", 10, TL_FILL, TL_AS_TEXT), EDIT("", 5, TL_UNWRAP, 9), EDIT("<hr>", 3, TL_PUT_BEFORE, TL_AS_MARKUP)};
+    const tl_edit untagged[] = {EDIT("", 8, TL_REMOVE, 0)}, across[] = {EDIT("", 5, TL_UNWRAP, 0), EDIT("b", 5, TL_RENAME, 0)};
+    const tl_edit no_form[] = {EDIT("", 5, TL_FILL, 2)}, none[] = {EDIT("", 5, 9, 0)};
+    LEAVES(EDITS(&document, edits), TL_REFUSED, 0);
+    TOLD(0, TL_NO_CAUSE);
+    CHECK(tl_parse_html(BYTES(own), &document) == TL_DONE);
+    PUTS(EDITS(&document, edits), "<hr><DIV>12</DIV><table><tr><td>&lt;</table>");
+    TOLD(0, TL_NO_CAUSE);
+    LEAVES(EDITS(&document, untagged), TL_REFUSED, 0);
+    TOLD(37, TL_UNTAGGED);
+    LEAVES(EDITS(&document, across), TL_REFUSED, 0);
+    TOLD(6, TL_ACROSS);
+    LEAVES(EDITS(&document, no_form), TL_NOT_UNDERSTOOD, 0);
+    LEAVES(EDITS(&document, none), TL_NOT_UNDERSTOOD, 0);
+    TOLD(0, TL_NO_CAUSE);
+    LEAVES(tl_edit_nodes(&document, BYTES(own), edits, 0, out, 53, &needed, &at_place, &why), TL_NO_ROOM, 54);
+    tl_free(&document);
+}
+
+/* Selectors that are read once. */
+static void of_compiled(void) {
+    tl_document document = TL_NO_DOCUMENT;
+    tl_compiled links = TL_NO_COMPILED, none = TL_NO_COMPILED;
+    CHECK(tl_parse_html(BYTES(own), &document) == TL_DONE);
+    LEAVES(tl_compiled_select(&document, &none, NUMBERS), TL_REFUSED, 0);
+    CHECK(tl_compile_css(BYTES("a[href], td"), &links, &at_place, &why) == TL_DONE && links.at != NULL);
+    TOLD(0, TL_NO_CAUSE);
+    CHECK(tl_compile_css(BYTES("a[href], :b"), &links, &at_place, &why) == TL_REFUSED);
+    TOLD(10, TL_NO_PSEUDO_CLASS);
+    CHECK(tl_compile_css(BYTES("\xff"), &links, &at_place, &why) == TL_NOT_UNDERSTOOD);
+    FINDS(tl_compiled_select(&document, &links, NUMBERS), 5, 10);
+    LEAVES(tl_compiled_select(&document, &links, numbers, 1, &needed), TL_NO_ROOM, 2);
+    FINDS(tl_compiled_select_below(&document, 7, &links, NUMBERS), 10);
+    LEAVES(tl_compiled_select_below(&document, 99, &links, NUMBERS), TL_REFUSED, 0);
+    CHECK(tl_compiled_first(&document, &links, &one) == TL_DONE && one == 5);
+    CHECK(tl_compiled_first_below(&document, 7, &links, &one) == TL_DONE && one == 10);
+    CHECK(tl_compiled_first_below(&document, 5, &links, &one) == TL_REFUSED && one == TL_NO_NODE);
+    CHECK(tl_compiled_matches(&document, 5, &links, &is_met) == TL_DONE && is_met == 1);
+    CHECK(tl_compiled_matches(&document, 3, &links, &is_met) == TL_DONE && is_met == 0);
+    CHECK(tl_compiled_closest(&document, 6, &links, &one) == TL_DONE && one == 5);
+    CHECK(tl_compiled_closest(&document, 3, &links, &one) == TL_REFUSED && one == TL_NO_NODE);
+    CHECK(tl_compile_css(BYTES("> tbody"), &links, &at_place, &why) == TL_DONE);
+    FINDS(tl_compiled_select_below(&document, 7, &links, NUMBERS), 8);
+    CHECK(tl_compiled_first(&document, &links, &one) == TL_REFUSED && one == TL_NO_NODE);
+    tl_free(&document);
+    LEAVES(tl_compiled_select(&document, &links, NUMBERS), TL_REFUSED, 0);
+    CHECK(tl_compiled_first(&document, &links, &one) == TL_REFUSED && one == TL_NO_NODE);
+    CHECK(tl_compiled_matches(&document, 0, &links, &is_met) == TL_REFUSED && is_met == 0);
+    CHECK(tl_compiled_closest(&document, 0, &links, &one) == TL_REFUSED && one == TL_NO_NODE);
+    tl_free_compiled(&links);
+    CHECK(links.at == NULL);
+    tl_free_compiled(&links);
+}
+
 /* An allocator of one's own: so many bytes are left, and so many blocks were taken. */
 static size_t left_there, taken;
 
@@ -619,6 +739,33 @@ static void refusals(void) {
     CHECK(one == 8);
     RUNS_OUT_OF(tl_node_matches_css(&document, 6, BYTES("nav > a"), &is_met, &place, &cause), is_met == 0);
     CHECK(is_met == 1);
+    RUNS_OUT_OF(tl_select_values(&document, BYTES("a"), BYTES("href"), OUT, &place, &cause), left(status, TL_OUT_OF_MEMORY, 0));
+    PUTS(TL_DONE, "?a=1&b=2\377");
+    tl_document other = TL_NO_DOCUMENT;
+    tl_compiled links = TL_NO_COMPILED;
+    const tl_change changes[] = {CHANGE("b", "c", 3, TL_SET), CHANGE("d", "", 5, TL_SET)};
+    const tl_edit edits[] = {EDIT("x", 5, TL_FILL, TL_AS_TEXT), EDIT("", 10, TL_REMOVE, 0)};
+    CHECK(tl_parse_html(BYTES(own), &other) == TL_DONE);
+    RUNS_OUT(PATCHES(&other, changes));
+    PUTS(TL_DONE, "<DIV b=\"c\">1<A d=\"\" HREF=/x b>2</A></DIV><table><tr><td>3</table>");
+    RUNS_OUT(EDITS(&other, edits));
+    PUTS(TL_DONE, "<DIV>1<A HREF=/x b>x</A></DIV><table><tr></table>");
+    tl_free(&other);
+    RUNS_OUT_OF(tl_compile_css(BYTES("nav > a"), &links, &place, &cause), links.at == NULL);
+    RUNS_OUT(tl_compiled_select(&document, &links, NUMBERS));
+    CHECK(found(TL_DONE, (const uint32_t[]){4, 6}, 2));
+    RUNS_OUT(tl_compiled_select_below(&document, 3, &links, NUMBERS));
+    CHECK(found(TL_DONE, (const uint32_t[]){4, 6}, 2));
+#define RUNS_OUT_ONE(call, unchanged) \
+    for (long number = 0;; number++) { \
+        REFUSES(number, (call), CHECK(unchanged)); \
+    }
+    RUNS_OUT_ONE(tl_compiled_first(&document, &links, &one), one == TL_NO_NODE);
+    RUNS_OUT_ONE(tl_compiled_first_below(&document, 3, &links, &one), one == TL_NO_NODE);
+    RUNS_OUT_ONE(tl_compiled_matches(&document, 6, &links, &is_met), is_met == 0);
+    RUNS_OUT_ONE(tl_compiled_closest(&document, 7, &links, &one), one == TL_NO_NODE);
+    CHECK(one == 6 && is_met == 1);
+    tl_free_compiled(&links);
     without_memory(&document);
 }
 
@@ -631,6 +778,10 @@ int main(void) {
         of_parts();
         of_tables();
         of_no_document();
+        of_values();
+        of_changes();
+        of_edits();
+        of_compiled();
         of_copies();
     }
     out_of_proportion();

@@ -19,7 +19,7 @@ import tlhtml
 
 def tlhtml_links(page):
     with tlhtml.Document(page) as document:
-        return [it["href"] for it in document.select("a[href]")]
+        return document.select_values("a", "href")
 
 
 def tlhtml_text(page):

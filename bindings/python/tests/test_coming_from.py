@@ -67,7 +67,7 @@ class Tasks(unittest.TestCase):
         with open(DOCUMENT, encoding="utf-8") as file:
             text = file.read().partition("## Forty tasks")[2]
         page = re.search(r"```html\n(.*?)```", text, re.DOTALL)[1]
-        names = {"tlhtml": tlhtml, "Document": tlhtml.Document, "document": tlhtml.Document(page), "page": page}
+        names = {"tlhtml": tlhtml, "Document": tlhtml.Document, "Edit": tlhtml.Edit, "document": tlhtml.Document(page)}
         names |= {"re": re, "json": json, "copy": copy, "urljoin": urljoin}
         if bs4:
             names |= {"bs4": bs4, "soup": bs4.BeautifulSoup(page, "html5lib")}

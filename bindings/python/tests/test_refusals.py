@@ -3,7 +3,7 @@ import ctypes
 import os
 import unittest
 
-from tlhtml import Document, Policy, Selector, edit, sanitize
+from tlhtml import Document, Edit, Policy, Selector, edit, sanitize
 from tlhtml._calls import lib
 
 PAGE = "<ul><LI class=a @click=f() href='?a=1&b'>x &amp; y<LI>3 < 4</UL><p>z<table><td>y"
@@ -29,7 +29,7 @@ class Refusals(unittest.TestCase):
 
     def test_each_call(self):
         document = Document(PAGE)
-        item = document.select_one("li")
+        item, own = document.select_one("li"), Selector("ul > li")
         for call in (
             lambda: sanitize(PAGE),
             lambda: sanitize(PAGE, Policy.BLOG.lists(tags=["p", "li"])),
@@ -43,6 +43,10 @@ class Refusals(unittest.TestCase):
             lambda: ([it.name for it in Document(PAGE).nodes], [it.kind for it in Document(PAGE).nodes]),
             lambda: (document.readable_text, document.prettify(), [it[1:] for it in document.links("https://a.org/")], document.tables()),
             lambda: Selector("li > b"),
+            lambda: (document.select(own), document.select_one(own), item.parent.select(own), item.closest(own), item.matches(own)),
+            lambda: document.select_values("li", "href"),
+            lambda: document.edit_each("li", lambda it: {"id": str(it.number)}),
+            lambda: document.edit_each("li[href]", lambda it: [Edit.unset("href"), Edit.fill(text="<")]),
         ):
             self.assertTrue(self.check(call))
         for call in (

@@ -3,6 +3,7 @@ import doctest
 import io
 import os
 import pathlib
+import pickle
 import re
 import tempfile
 import threading
@@ -10,7 +11,7 @@ import time
 import unittest
 
 import tlhtml
-from tlhtml import ChangeError, Document, Error, OutOfProportion, Policy, PolicyError, Selector, SelectorError, TooLong
+from tlhtml import ChangeError, Document, Edit, Error, OutOfProportion, Policy, PolicyError, Selector, SelectorError, TooLong
 from tlhtml import css_escape, edit, sanitize, set_attribute, unset_attribute
 
 PAGE = "<UL><LI hidden class=a @click=f() href='?a=1&b=2&lt;'>x &amp; y<LI>3 < 4</UL><!-- c --><p>z"
@@ -345,7 +346,78 @@ class Sources(unittest.TestCase):
                 Document(pathlib.Path(folder, "none"))
 
 
-class Around(unittest.TestCase):
+class EachEdit(unittest.TestCase):
+    PAGE = "<!DOCTYPE X><DIV CLASS='a b'>1<A HREF=/x>é</A></DIV><svg viewBox='0 0'></svg><table><tr><td>3</table>"
+
+    def edited(self, selector, function):
+        return Document(self.PAGE).edit_each(selector, function)
+
+    def test_tags(self):
+        self.assertEqual(self.edited("a", lambda it: Edit.set("href", it["href"] + "?é&")), self.PAGE.replace("HREF=/x", 'HREF="/x?é&amp;"'))
+        self.assertEqual(self.edited("a", lambda it: {"HREF": None, "title": ""}), self.PAGE.replace("<A HREF=/x>", '<A title="">'))
+        self.assertEqual(self.edited("svg", lambda it: {"viewBox": "1"}), self.PAGE.replace("viewBox='0 0'", 'viewBox="1"'))
+        self.assertEqual(self.edited("div", lambda it: Edit.add_word("class", "c")), self.PAGE.replace("'a b'", '"a b c"'))
+        self.assertEqual(self.edited("div", lambda it: Edit.remove_word("class", "b")), self.PAGE.replace("'a b'", '"a"'))
+        self.assertEqual(self.edited("td", lambda it: Edit.add_word("class", "x")), self.PAGE.replace("<td>", '<td class="x">'))
+        words = lambda it: [Edit.remove_word("class", "a"), Edit.unset("id")]
+        self.assertEqual(self.edited("div", words), self.PAGE.replace("'a b'", '"b"'))
+        self.assertEqual(Document("<p class=a>").edit_each("p", lambda it: Edit.remove_word("class", "a")), "<p>")
+
+    def test_what_stays(self):
+        for answer in (None, [], {}, Edit.set("href", "/x"), Edit.add_word("href", "/x"), Edit.remove_word("href", "y"), Edit.add_word("id", "")):
+            self.assertEqual(self.edited("a", lambda it: answer), self.PAGE)
+        self.assertEqual(self.edited("i", lambda it: 1 / 0), self.PAGE)
+        document = Document(self.PAGE)
+        document.edit_each("a", lambda it: Edit.remove())
+        self.assertEqual(document.select_one("a").text, "é")
+
+    def test_elements(self):
+        self.assertEqual(self.edited("a, td", lambda it: Edit.fill(text="<") if it.name == "a" else Edit.rename("TH")),
+                         self.PAGE.replace(">é<", ">&lt;<").replace("<td>3", "<th>3</th>"))
+        both = lambda it: [Edit.before(markup="<hr>"), Edit.append(text="!")]
+        self.assertEqual(self.edited("div", both), self.PAGE.replace("<DIV", "<hr><DIV").replace("</A></DIV>", "</A>!</DIV>"))
+        for edit_of, wanted in ((Edit.remove(), ""), (Edit.unwrap(), "é"), (Edit.replace(markup="<b>"), "<b>"), (Edit.after(text="z"), "<A HREF=/x>é</A>z"),
+                                (Edit.prepend(text="z"), "<A HREF=/x>zé</A>")):
+            self.assertEqual(self.edited("a", lambda it: edit_of), self.PAGE.replace("<A HREF=/x>é</A>", wanted))
+
+    def test_both(self):
+        both = lambda it: [{"id": "b"}, Edit.fill(text="z")]
+        self.assertEqual(self.edited("a", both), self.PAGE.replace("<A HREF=/x>é", '<A id="b" HREF=/x>z'))
+        with self.assertRaises(ValueError):
+            Document("<table><tr><input><td>x</table>").edit_each("input, td", lambda it: {"type": "hidden"} if it.name == "input" else Edit.remove())
+
+    def test_refused(self):
+        with self.assertRaises(ChangeError) as it:
+            self.edited("tbody", lambda it: {"a": "b"})
+        self.assertEqual((it.exception.place, it.exception.cause), (self.PAGE.index("<tr>"), 24))
+        with self.assertRaises(ChangeError) as it:
+            self.edited("a", lambda it: [Edit.unwrap(), Edit.rename("b")])
+        self.assertEqual((it.exception.place, it.exception.cause), (self.PAGE.index("<A"), 20))
+        with self.assertRaises(ChangeError) as it:
+            self.edited("a", lambda it: {"a b": "c"})
+        self.assertEqual(it.exception.cause, 17)
+        with self.assertRaises(SelectorError):
+            self.edited("a:hover", lambda it: None)
+        for answer in (1, "href", {"href": 1}, [3], Edit("set", "href", 1)):
+            with self.assertRaises(TypeError):
+                self.edited("a", lambda it: answer)
+        for make in (lambda: Edit.fill(), lambda: Edit.fill(text="a", markup="b")):
+            with self.assertRaises(ValueError):
+                make()
+        with self.assertRaises(ValueError):
+            self.edited("a", lambda it: Edit("paint"))
+
+    def test_values(self):
+        document = Document("<a href=1>x</a><a>y</a><a href='é&amp;\n'><p href=3>")
+        self.assertEqual(document.select_values("a", "href"), ["1", "é&\n"])
+        self.assertEqual(document.select_values(Selector("p"), "href"), ["3"])
+        self.assertEqual((document.select_values("a", "id"), document.select_values("i", "href")), ([], []))
+        with self.assertRaises(SelectorError) as it:
+            document.select_values("a:hover", "href")
+        self.assertEqual(it.exception.place, 2)
+        with self.assertRaises(TypeError):
+            document.select_values("a", None)
+
     def test_siblings_and_title(self):
         document = Document("<title> a\n b </title><p>1<b>2</b><!--3-->4")
         self.assertEqual(document.title, "a b")
@@ -359,6 +431,22 @@ class Around(unittest.TestCase):
 
 
 class OwnSelectors(unittest.TestCase):
+    def test_shared_by_threads(self):
+        own, documents, wrong = Selector("li:nth-child(2n)"), [Document("<ul>" + "<li>x" * count) for count in range(8)], []
+
+        def ask(document, count):
+            for _ in range(200):
+                if len(document.select(own)) != count // 2 or own.text != str(own):
+                    wrong.append(count)
+
+        threads = [threading.Thread(target=ask, args=(it, count)) for count, it in enumerate(documents)]
+        for it in threads:
+            it.start()
+        for it in threads:
+            it.join()
+        self.assertEqual(wrong, [])
+        self.assertEqual(pickle.loads(pickle.dumps(own)), own)
+
     def test_selectors_that_are_read_once(self):
         items = Selector("ul > li")
         document = Document(PAGE)

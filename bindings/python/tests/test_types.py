@@ -12,12 +12,15 @@ PACKAGE = os.path.dirname(os.path.abspath(tlhtml.__file__))
 # What a user writes, and one line that is wrong.
 PROGRAM = """
 import pathlib
-from tlhtml import Document, Selector
+from tlhtml import Document, Edit, Selector
 
 links: list[str] = [it["href"] for it in Document(pathlib.Path("x.html")).select(Selector("a[href]"))]
 first = Document(b"<p>").select_one("p")
 name: str | None = first.name if first else None
 rows: list[list[str]] = Document("<table>").tables()[0]
+values: list[str] = Document("<a href=x>").select_values("a", "href")
+page: str = Document("<a href=x>").edit_each("a", lambda it: Edit.set("href", it["href"] + "?") if it.text else None)
+other: str = Document("<a href=x>").edit_each("a", lambda it: {"href": "y", "id": None})
 wrong: int = Document("<p>").text
 """
 

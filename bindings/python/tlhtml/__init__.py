@@ -9,6 +9,7 @@
 from ._calls import version
 from ._changes import edit, set_attribute, unset_attribute
 from ._document import Document, Link, Node, join_url
+from ._each import Edit
 from ._errors import ChangeError, Error, OutOfProportion, PolicyError, SelectorError, TooLong
 from ._policy import Lists, Policy, sanitize
 from ._selectors import Selector, css_escape
@@ -16,6 +17,7 @@ from ._selectors import Selector, css_escape
 __all__ = [
     "ChangeError",
     "Document",
+    "Edit",
     "Error",
     "Link",
     "Lists",

@@ -45,12 +45,39 @@ class Lists(ctypes.Structure):
     ]
 
 
+class Change(ctypes.Structure):
+    """tl_change."""
+
+    _fields_ = [
+        ("key", ctypes.c_char_p),
+        ("key_len", ctypes.c_size_t),
+        ("value", ctypes.c_char_p),
+        ("value_len", ctypes.c_size_t),
+        ("node", ctypes.c_uint32),
+        ("change", ctypes.c_uint8),
+    ]
+
+
+class NodeEdit(ctypes.Structure):
+    """tl_edit."""
+
+    _fields_ = [
+        ("content", ctypes.c_char_p),
+        ("content_len", ctypes.c_size_t),
+        ("node", ctypes.c_uint32),
+        ("edit", ctypes.c_uint8),
+        ("form", ctypes.c_uint8),
+    ]
+
+
 _LENT = [ctypes.c_char_p, ctypes.c_size_t]
 _OUT = [ctypes.c_void_p, ctypes.c_size_t, ctypes.POINTER(ctypes.c_size_t)]
 _OF = ctypes.POINTER(Handle)
 _PLACE = [ctypes.POINTER(ctypes.c_size_t), ctypes.POINTER(ctypes.c_uint8)]
 _NODE = [_OF, ctypes.c_uint32]
 _ONE = [ctypes.POINTER(ctypes.c_uint32)]
+# (a compiled selector is held as a document is)
+_COMPILED = [_OF]
 
 lib = ctypes.CDLL(_path())
 for _name, _kind, _words in (
@@ -75,11 +102,22 @@ for _name, _kind, _words in (
     ("tl_document_links", ctypes.c_uint8, [_OF] + _OUT),
     ("tl_join_url", ctypes.c_uint8, _LENT * 2 + _OUT),
     ("tl_select_css", ctypes.c_uint8, [_OF] + _LENT + _OUT + _PLACE),
+    ("tl_select_values", ctypes.c_uint8, [_OF] + _LENT * 2 + _OUT + _PLACE),
+    ("tl_patch_nodes", ctypes.c_uint8, [_OF] + _LENT + [ctypes.POINTER(Change), ctypes.c_size_t] + _OUT + _PLACE),
+    ("tl_edit_nodes", ctypes.c_uint8, [_OF] + _LENT + [ctypes.POINTER(NodeEdit), ctypes.c_size_t] + _OUT + _PLACE),
     ("tl_first_css", ctypes.c_uint8, [_OF] + _LENT + _ONE + _PLACE),
     ("tl_node_select_css", ctypes.c_uint8, _NODE + _LENT + _OUT + _PLACE),
     ("tl_node_first_css", ctypes.c_uint8, _NODE + _LENT + _ONE + _PLACE),
     ("tl_node_matches_css", ctypes.c_uint8, _NODE + _LENT + [ctypes.POINTER(ctypes.c_uint8)] + _PLACE),
     ("tl_node_closest_css", ctypes.c_uint8, _NODE + _LENT + _ONE + _PLACE),
+    ("tl_compile_css", ctypes.c_uint8, _LENT + _COMPILED + _PLACE),
+    ("tl_free_compiled", None, _COMPILED),
+    ("tl_compiled_select", ctypes.c_uint8, [_OF] + _COMPILED + _OUT),
+    ("tl_compiled_first", ctypes.c_uint8, [_OF] + _COMPILED + _ONE),
+    ("tl_compiled_select_below", ctypes.c_uint8, _NODE + _COMPILED + _OUT),
+    ("tl_compiled_first_below", ctypes.c_uint8, _NODE + _COMPILED + _ONE),
+    ("tl_compiled_matches", ctypes.c_uint8, _NODE + _COMPILED + [ctypes.POINTER(ctypes.c_uint8)]),
+    ("tl_compiled_closest", ctypes.c_uint8, _NODE + _COMPILED + _ONE),
     ("tl_node_kind", ctypes.c_uint8, _NODE),
     ("tl_node_namespace", ctypes.c_uint8, _NODE),
     ("tl_node_parent", ctypes.c_uint32, _NODE),
@@ -160,6 +198,10 @@ class Room:
         """The numbers that it was filled with."""
         numbers: list[int] = self._view[: self._count.value].tolist()
         return numbers
+
+    def values(self) -> list[str]:
+        """The values that it was filled with, in order."""
+        return [it.decode() for it in self.raw().split(b"\xff")[:-1]]
 
     def attributes(self) -> dict[str, str]:
         """The keys and values that it was filled with, in order."""

@@ -25,7 +25,7 @@ def _patched(edit: int, html: str, selector: str | Selector, key: str, value: st
     return _changed(lib.tl_patch_css, [edit], html, selector, utf8(key, "a key").lower(), utf8(value, "a value"))
 
 
-_EDITS = ("rename", "remove", "unwrap", "replace", "fill", "prepend", "append", "before", "after")
+EDITS = ("rename", "remove", "unwrap", "replace", "fill", "prepend", "append", "before", "after")
 
 
 def edit(
@@ -38,16 +38,21 @@ def edit(
     >>> edit("<!DOCTYPE html PUBLIC 'x'><P>one <B>two</B>", "b", "fill", text="3 < 4")
     "<!DOCTYPE html PUBLIC 'x'><P>one <B>3 &lt; 4</B>"
     """
-    if what not in _EDITS:
-        raise ValueError(f"no edit: {what!r} is none of {', '.join(_EDITS)}")
+    if what not in EDITS:
+        raise ValueError(f"no edit: {what!r} is none of {', '.join(EDITS)}")
+    said, form = content_of(what, name, text, markup)
+    content = utf8(said, "what is put")
+    # (names are in lower case)
+    return _changed(lib.tl_edit_css, [EDITS.index(what), form], html, selector, content.lower() if what == "rename" else content)
+
+
+def content_of(what: str, name: str | None, text: str | None, markup: str | None) -> tuple[str, int]:
+    """What is put by an edit, and the number of what it is."""
     wanted = {"rename": (name,), "remove": (), "unwrap": ()}.get(what, (text, markup))
     given = [it for it in (name, text, markup) if it is not None]
     if len(given) != bool(wanted) or any(it not in wanted for it in given):
         raise ValueError(f"{what!r} takes {'a name' if what == 'rename' else 'a text or markup' if wanted else 'nothing else'}")
-    numbers = [_EDITS.index(what), int(markup is not None)]
-    content = utf8(given[0], "what is put") if given else b""
-    # (names are in lower case)
-    return _changed(lib.tl_edit_css, numbers, html, selector, content.lower() if what == "rename" else content)
+    return given[0] if given else "", int(markup is not None)
 
 
 def _changed(call: Callable[..., int], numbers: list[int], html: str, selector: str | Selector, *texts: bytes) -> str:
@@ -56,10 +61,15 @@ def _changed(call: Callable[..., int], numbers: list[int], html: str, selector: 
     words = [*numbers, *(word for it in (asked, *texts, page) for word in (it, len(it)))]
     room, place, cause = room_of(page), ctypes.c_size_t(), ctypes.c_uint8()
     status = room.fill(call, *words, behind=(place, cause))
-    if cause.value >= 16:
-        raise ChangeError(characters(page, place.value), cause.value)
-    if cause.value:
+    if 0 < cause.value < 16:
         raise SelectorError(str(selector), characters(asked, place.value), cause.value)
+    look_at_change(page, status, place.value, cause.value)
+    return room.text()
+
+
+def look_at_change(page: bytes, status: int, place: int, cause: int) -> None:
+    """Raises what is said of a change of a page that isn't made."""
+    if cause:
+        raise ChangeError(characters(page, place), cause)
     if status != DONE:
         raise page_error_of(status, page)
-    return room.text()

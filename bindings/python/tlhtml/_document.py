@@ -10,10 +10,12 @@ import threading
 from types import TracebackType
 from typing import Any, Callable, Iterator, NamedTuple, Pattern, TypeVar
 
-from ._calls import DONE, NO_NODE, NOT_UNDERSTOOD, REFUSED, Handle, Room, characters, error_of, lib, page_error_of, utf8
+from ._calls import DONE, NO_NODE, NOT_UNDERSTOOD, REFUSED, Handle, Room, characters, error_of, lib, page_error_of, room_of, utf8
+from ._changes import look_at_change
+from ._each import EachFunction, Edits
 from ._errors import OutOfProportion, SelectorError
 from ._rows import COMMENT, CONTENTS, DOCTYPE, ELEMENT, TEXT, Parts, Rows
-from ._selectors import Selector, selector_bytes
+from ._selectors import Selector, lent_selector, selector_bytes
 from ._sources import Page, page_bytes
 
 KINDS = ("none", "element", "text", "comment", "doctype", "contents")
@@ -26,6 +28,22 @@ _FEW = 8
 _MANY = 64
 # White space of HTML, between the words of a class.
 _BLANKS = " \t\n\f\r"
+
+
+class _Calls(NamedTuple):
+    """A call with the text of a selector, which says where and why it is none, and that with one that was read."""
+
+    by_text: Callable[..., int]
+    compiled: Callable[..., int]
+    is_below: bool = False
+
+
+_SELECT = _Calls(lib.tl_select_css, lib.tl_compiled_select)
+_FIRST = _Calls(lib.tl_first_css, lib.tl_compiled_first)
+_SELECT_BELOW = _Calls(lib.tl_node_select_css, lib.tl_compiled_select_below, True)
+_FIRST_BELOW = _Calls(lib.tl_node_first_css, lib.tl_compiled_first_below, True)
+_MATCHES = _Calls(lib.tl_node_matches_css, lib.tl_compiled_matches)
+_CLOSEST = _Calls(lib.tl_node_closest_css, lib.tl_compiled_closest)
 
 
 class Link(NamedTuple):
@@ -153,40 +171,108 @@ class Document:
         self._asked += 1
         return self._parts or (self._all_parts() if self._asked > _FEW else None)
 
-    def _selected(self, call: Callable[..., int], selector: str | Selector, *front: int) -> list[Node]:
-        """The nodes that a call finds which says where and why a selector is none."""
-        lent, place, cause = selector_bytes(selector), ctypes.c_size_t(), ctypes.c_uint8()
+    def _selected(self, calls: _Calls, selector: str | Selector, *front: int) -> list[Node]:
+        """The nodes that such a call finds."""
+        place, cause = ctypes.c_size_t(), ctypes.c_uint8()
         found: list[int] = []
-        with self._lock:
-            status = self._numbers.fill(call, self._opened(), *front, lent, len(lent), behind=(place, cause))
+        with self._lock, lent_selector(selector, calls.is_below) as lent:
+            opened = self._opened()
+            if isinstance(lent, Handle):
+                status = self._numbers.fill(calls.compiled, opened, *front, lent)
+            else:
+                status = self._numbers.fill(calls.by_text, opened, *front, lent, len(lent), behind=(place, cause))
             if status == DONE:
                 found = self._numbers.numbers()
-        _look_at(lent, status, place.value, cause.value)
+        _look_at(selector, status, place.value, cause.value)
         return [Node(self, number) for number in found]
 
-    def _said(
-        self, call: Callable[..., int], selector: str | Selector, said: ctypes.c_uint32 | ctypes.c_uint8, *front: int
-    ) -> int | None:
+    def _said(self, calls: _Calls, selector: str | Selector, said: ctypes.c_uint32 | ctypes.c_uint8, *front: int) -> int | None:
         """The one number that such a call says; None where it is refused without a cause."""
-        lent, place, cause = selector_bytes(selector), ctypes.c_size_t(), ctypes.c_uint8()
-        status = self._number(call, *front, lent, len(lent), said, place, cause)
+        place, cause = ctypes.c_size_t(), ctypes.c_uint8()
+        with self._lock, lent_selector(selector, calls.is_below) as lent:
+            opened = self._opened()
+            if isinstance(lent, Handle):
+                status = calls.compiled(opened, *front, lent, said)
+            else:
+                status = calls.by_text(opened, *front, lent, len(lent), said, place, cause)
         if status == REFUSED and not cause.value:
             return None
-        _look_at(lent, status, place.value, cause.value)
+        _look_at(selector, status, place.value, cause.value)
         return said.value
 
-    def _selected_one(self, call: Callable[..., int], selector: str | Selector, *front: int) -> Node | None:
+    def _selected_one(self, calls: _Calls, selector: str | Selector, *front: int) -> Node | None:
         """The node that such a call says."""
-        number = self._said(call, selector, ctypes.c_uint32(), *front)
+        number = self._said(calls, selector, ctypes.c_uint32(), *front)
         return None if number is None else Node(self, number)
 
     def select(self, selector: str | Selector) -> list[Node]:
         """The elements that match a CSS selector, in document order, without those in a `template`. `:scope` is the root."""
-        return self._selected(lib.tl_select_css, selector)
+        return self._selected(_SELECT, selector)
 
     def select_one(self, selector: str | Selector) -> Node | None:
         """The first of them; None where there is none."""
-        return self._selected_one(lib.tl_first_css, selector)
+        return self._selected_one(_FIRST, selector)
+
+    def select_values(self, selector: str | Selector, key: str) -> list[str]:
+        """The values at a key of the elements where a selector of CSS holds, in the order of the page, in one call; an element without the
+        key has none. Keys are as they are serialized: in lower case in HTML.
+
+        >>> Document("<a href=/x>1</a><a>2</a><a href='/y?a&amp;b'>3</a>").select_values("a", "href")
+        ['/x', '/y?a&b']
+        """
+        lent, asked = selector_bytes(selector), utf8(key, "a key")
+        place, cause = ctypes.c_size_t(), ctypes.c_uint8()
+        found: list[str] = []
+        with self._lock:
+            status = self._bytes.fill(
+                lib.tl_select_values, self._opened(), lent, len(lent), asked, len(asked), behind=(place, cause)
+            )
+            if status == DONE:
+                found = self._bytes.values()
+        _look_at(selector, status, place.value, cause.value)
+        return found
+
+    def edit_each(self, selector: str | Selector, function: EachFunction) -> str:
+        """The page with an edit of its own for each element where a selector of CSS holds, and with each other byte as it was: what the
+        function answers of the element. That is an `Edit`, a mapping of keys to the values that they get (None: the key goes), several of
+        these, or None. The document stays as it is.
+
+        >>> page = "<P><A HREF='http://a.org'>x</A> <a href=/y>y</a></P>"
+        >>> Document(page).edit_each("a", lambda it: {"href": it["href"].replace("http:", "https:")})
+        '<P><A HREF="https://a.org">x</A> <a href=/y>y</a></P>'
+        >>> from tlhtml import Edit
+        >>> Document(page).edit_each("a", lambda it: Edit.unwrap() if it["href"].startswith("/") else None)
+        "<P><A HREF='http://a.org'>x</A> y</P>"
+
+        All tags are changed in one pass, and so are all elements. Where both are, the tags come first, and the page is read once more for
+        the elements; where its tree isn't the same then, as where an `input` in a table is hidden, that is a ValueError."""
+        edits = Edits()
+        for node in self.select(selector):
+            edits.add(node, function(node))
+        page, document = self._page, self
+        if edits.changes:
+            lent = edits.lent_changes()
+            page = self._changed(lib.tl_patch_nodes, lent, len(lent))
+        if edits.edits:
+            document = self._same_nodes(page) if edits.changes else self
+            other = edits.lent_edits()
+            page = document._changed(lib.tl_edit_nodes, other, len(other))
+        return page.decode()
+
+    def _changed(self, call: Callable[..., int], lent: Any, count: int) -> bytes:
+        """The page with the changes that are lent."""
+        room, place, cause = room_of(self._page), ctypes.c_size_t(), ctypes.c_uint8()
+        with self._lock:
+            status = room.fill(call, self._opened(), self._page, len(self._page), lent, count, behind=(place, cause))
+        look_at_change(self._page, status, place.value, cause.value)
+        return room.raw()
+
+    def _same_nodes(self, page: bytes) -> Document:
+        """The document of a page with other attributes, which has the same nodes."""
+        document = Document(page.decode())
+        if document._rows() != self._rows():
+            raise ValueError("with these values the page has another tree: change elements by a call of their own")
+        return document
 
     @property
     def is_quirks(self) -> bool:
@@ -332,10 +418,10 @@ def join_url(base: str, link: str) -> str | None:
     return room.text() if status == DONE else None
 
 
-def _look_at(selector: bytes, status: int, place: int, cause: int) -> None:
+def _look_at(selector: str | Selector, status: int, place: int, cause: int) -> None:
     """Raises what a call says of a selector that is none, or a status that is no answer."""
     if cause:
-        raise SelectorError(selector.decode(), characters(selector, place), cause)
+        raise SelectorError(str(selector), characters(selector_bytes(selector), place), cause)
     if status != DONE:
         raise error_of(status)
 
@@ -675,16 +761,16 @@ class Node:
         >>> len(items.select("li")), len(items.select("> li"))
         (2, 1)
         """
-        return self.document._selected(lib.tl_node_select_css, selector, self.number)
+        return self.document._selected(_SELECT_BELOW, selector, self.number)
 
     def select_one(self, selector: str | Selector) -> Node | None:
         """The first of them; None where there is none."""
-        return self.document._selected_one(lib.tl_node_first_css, selector, self.number)
+        return self.document._selected_one(_FIRST_BELOW, selector, self.number)
 
     def closest(self, selector: str | Selector) -> Node | None:
         """Of it and the elements that it stands in the innermost one that matches a CSS selector. `:scope` is the node."""
-        return self.document._selected_one(lib.tl_node_closest_css, selector, self.number)
+        return self.document._selected_one(_CLOSEST, selector, self.number)
 
     def matches(self, selector: str | Selector) -> bool:
         """Whether it matches a CSS selector. All but one of a type, ids, classes and attributes (`li.a[href]`) is asked of the whole page."""
-        return self.document._said(lib.tl_node_matches_css, selector, ctypes.c_uint8(), self.number) == 1
+        return self.document._said(_MATCHES, selector, ctypes.c_uint8(), self.number) == 1

@@ -24,6 +24,12 @@ class Rows:
         self.parents, self.ends = view[2::4], view[3::4]
         self.has_contents = CONTENTS in self.kinds
 
+    def __eq__(self, other: object) -> bool:
+        """Whether these are the same nodes at the same places."""
+        if not isinstance(other, Rows):
+            return NotImplemented
+        return all(getattr(self, it) == getattr(other, it) for it in self.__slots__)
+
     def end(self, number: int) -> int:
         """The number behind what a node stands in."""
         parent = self.parents[number]

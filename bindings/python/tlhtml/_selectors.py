@@ -2,14 +2,17 @@
 from __future__ import annotations
 
 import ctypes
+import threading
+from contextlib import contextmanager
+from typing import Iterator
 
 from ._calls import DONE, REFUSED, Handle, characters, error_of, lib, utf8
 from ._errors import SelectorError
 
 
 class Selector:
-    """A selector of CSS that is looked at once: of a wrong one the SelectorError comes where it is made. Each call that takes the text of
-    a selector takes it too.
+    """A selector of CSS that is read once: of a wrong one the SelectorError comes where it is made. Each call that takes the text of a
+    selector takes it too. Below a node it may begin with a combinator, as its text may.
 
     >>> from tlhtml import Document
     >>> links = Selector("li > a[href]")
@@ -20,14 +23,30 @@ class Selector:
     tlhtml._errors.SelectorError: no selector: 'li:hover': at 3: no such pseudo-class: `hover` (a page has no states)
     """
 
-    __slots__ = ("_lent", "text")
+    __slots__ = ("_handle", "_is_whole", "_lent", "_lock", "text")
 
     def __init__(self, text: str) -> None:
         self._lent = utf8(text, "a selector")
         self.text = text
-        place, cause = _wrong(self._lent)
-        if cause:
-            raise SelectorError(text, characters(self._lent, place), cause)
+        self._handle, self._lock = Handle(), threading.Lock()
+        place, cause = ctypes.c_size_t(), ctypes.c_uint8()
+        status = lib.tl_compile_css(self._lent, len(self._lent), self._handle, place, cause)
+        if cause.value:
+            raise SelectorError(text, characters(self._lent, place.value), cause.value)
+        if status != DONE:
+            raise error_of(status)
+        # (whether it begins with no combinator: without a document nothing is found, and a cause is told all the same)
+        status = lib.tl_first_css(Handle(), self._lent, len(self._lent), ctypes.c_uint32(), place, cause)
+        if status != REFUSED:
+            raise error_of(status)
+        self._is_whole = not cause.value
+
+    def __del__(self) -> None:
+        if lib is not None and hasattr(self, "_lock"):
+            lib.tl_free_compiled(self._handle)
+
+    def __reduce__(self) -> tuple[type[Selector], tuple[str]]:
+        return Selector, (self.text,)
 
     def __str__(self) -> str:
         return self.text
@@ -42,18 +61,17 @@ class Selector:
         return hash(self.text)
 
 
-def _wrong(selector: bytes) -> tuple[int, int]:
-    """The first byte that is wrong, and the number of the cause; 0 where nothing is. It is asked of an empty page, as below a node."""
-    handle, number, place, cause = Handle(), ctypes.c_uint32(), ctypes.c_size_t(), ctypes.c_uint8()
-    try:
-        status = lib.tl_parse_html(b"", 0, handle)
-        if status == DONE:
-            status = lib.tl_node_first_css(handle, 0, selector, len(selector), number, place, cause)
-    finally:
-        lib.tl_free(handle)
-    if status not in (DONE, REFUSED):
-        raise error_of(status)
-    return place.value, cause.value
+@contextmanager
+def lent_selector(selector: object, is_below: bool) -> Iterator[Handle | bytes]:
+    """What a call is lent for a selector while it lasts: one that was read, or its text, also where another thread asks by it just now, and
+    where it begins with a combinator and is asked of no node's inside."""
+    if isinstance(selector, Selector) and (is_below or selector._is_whole) and selector._lock.acquire(blocking=False):
+        try:
+            yield selector._handle
+        finally:
+            selector._lock.release()
+    else:
+        yield selector_bytes(selector)
 
 
 def selector_bytes(selector: object) -> bytes:

@@ -1,5 +1,6 @@
 //! The calls of `tl.h`, and how room is lent to them.
 use crate::Error;
+use crate::each::{LentChange, LentEdit};
 use std::ffi::c_void;
 
 /// `tl_document`.
@@ -198,6 +199,84 @@ unsafe extern "C" {
         needed: *mut usize,
         place: *mut usize,
         cause: *mut u8,
+    ) -> u8;
+    pub fn tl_select_values(
+        document: *mut Handle,
+        selector: *const u8,
+        selector_len: usize,
+        key: *const u8,
+        key_len: usize,
+        out: *mut u8,
+        room: usize,
+        needed: *mut usize,
+        place: *mut usize,
+        cause: *mut u8,
+    ) -> u8;
+    pub(crate) fn tl_patch_nodes(
+        document: *mut Handle,
+        page: *const u8,
+        page_len: usize,
+        changes: *const LentChange,
+        count: usize,
+        out: *mut u8,
+        room: usize,
+        needed: *mut usize,
+        place: *mut usize,
+        cause: *mut u8,
+    ) -> u8;
+    pub(crate) fn tl_edit_nodes(
+        document: *mut Handle,
+        page: *const u8,
+        page_len: usize,
+        edits: *const LentEdit,
+        count: usize,
+        out: *mut u8,
+        room: usize,
+        needed: *mut usize,
+        place: *mut usize,
+        cause: *mut u8,
+    ) -> u8;
+    pub fn tl_compile_css(
+        selector: *const u8,
+        selector_len: usize,
+        compiled: *mut Handle,
+        place: *mut usize,
+        cause: *mut u8,
+    ) -> u8;
+    pub fn tl_free_compiled(compiled: *mut Handle);
+    pub fn tl_compiled_select(
+        document: *mut Handle,
+        compiled: *mut Handle,
+        numbers: *mut u32,
+        room: usize,
+        needed: *mut usize,
+    ) -> u8;
+    pub fn tl_compiled_first(document: *mut Handle, compiled: *mut Handle, number: *mut u32) -> u8;
+    pub fn tl_compiled_select_below(
+        document: *mut Handle,
+        node: u32,
+        compiled: *mut Handle,
+        numbers: *mut u32,
+        room: usize,
+        needed: *mut usize,
+    ) -> u8;
+    pub fn tl_compiled_first_below(
+        document: *mut Handle,
+        node: u32,
+        compiled: *mut Handle,
+        number: *mut u32,
+    ) -> u8;
+    pub fn tl_compiled_matches(
+        document: *mut Handle,
+        node: u32,
+        compiled: *mut Handle,
+        matches: *mut u8,
+    ) -> u8;
+    pub fn tl_compiled_closest(
+        document: *mut Handle,
+        node: u32,
+        compiled: *mut Handle,
+        number: *mut u32,
     ) -> u8;
     pub fn tl_first_css(
         document: *mut Handle,

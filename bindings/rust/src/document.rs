@@ -2,7 +2,7 @@
 use crate::calls::{self, Handle};
 use crate::link::{self, Link};
 use crate::tree::Tree;
-use crate::{Cause, Children, Error, Kind, Node, Texts};
+use crate::{Cause, Children, Error, Kind, Node, Texts, ToSelector};
 use std::iter::FusedIterator;
 use std::ops::Range;
 use std::ptr;
@@ -81,9 +81,12 @@ impl Document {
             return Err(Error::NoEncoding);
         }
         let (at, len) = (label.as_ptr(), label.len());
-        let text = calls::items(page.len() + page.len() / 8 + 64, |out, room, needed| unsafe {
-            calls::tl_decode_page(at, len, page.as_ptr(), page.len(), out, room, needed)
-        });
+        let text = calls::items(
+            page.len() + page.len() / 8 + 64,
+            |out, room, needed| unsafe {
+                calls::tl_decode_page(at, len, page.as_ptr(), page.len(), out, room, needed)
+            },
+        );
         match text {
             Ok(text) => Document::parse(&calls::text_of(text)),
             Err(calls::REFUSED) => Err(Error::NoEncoding),
@@ -107,19 +110,53 @@ impl Document {
 
     /// The elements that match a CSS selector, in document order, without those in a `template`. `:scope` is the root. A
     /// selector is a text, or a [`Selector`](crate::Selector).
-    pub fn select(&self, selector: impl AsRef<str>) -> Result<Select<'_>, Error> {
-        let (at, len) = lent_text(selector.as_ref());
+    pub fn select(&self, selector: impl ToSelector) -> Result<Select<'_>, Error> {
+        if let Some(mut compiled) = selector.compiled(false) {
+            let own = compiled.handle();
+            return self.selected(|document, numbers, room, needed, _, _| unsafe {
+                calls::tl_compiled_select(document, own, numbers, room, needed)
+            });
+        }
+        let (at, len) = lent_text(selector.text());
         self.selected(|document, numbers, room, needed, place, cause| unsafe {
             calls::tl_select_css(document, at, len, numbers, room, needed, place, cause)
         })
     }
 
     /// The first of them.
-    pub fn first(&self, selector: impl AsRef<str>) -> Result<Option<Node<'_>>, Error> {
-        let (at, len) = lent_text(selector.as_ref());
+    pub fn first(&self, selector: impl ToSelector) -> Result<Option<Node<'_>>, Error> {
+        if let Some(mut compiled) = selector.compiled(false) {
+            return self.selected_one(|document, number, _, _| unsafe {
+                calls::tl_compiled_first(document, compiled.handle(), number)
+            });
+        }
+        let (at, len) = lent_text(selector.text());
         self.selected_one(|document, number, place, cause| unsafe {
             calls::tl_first_css(document, at, len, number, place, cause)
         })
+    }
+
+    /// The values at a key of the elements where a selector of CSS holds, in the order of the page, in one call; an element without the
+    /// key has none. Keys are as they are serialized: in lower case in HTML.
+    ///
+    /// ```
+    /// let document = tlhtml::Document::parse("<a href=/x>1</a><a>2</a><a href='/y?a&amp;b'>3</a>")?;
+    /// assert_eq!(document.select_values("a", "href")?, ["/x", "/y?a&b"]);
+    /// # Ok::<(), tlhtml::Error>(())
+    /// ```
+    pub fn select_values(
+        &self,
+        selector: impl ToSelector,
+        key: &str,
+    ) -> Result<Vec<String>, Error> {
+        let ((at, len), (key, key_len)) = (lent_text(selector.text()), lent_text(key));
+        let (mut place, mut cause) = (0, 0);
+        self.answered(values_in, |handle, out, room, needed| unsafe {
+            calls::tl_select_values(
+                handle, at, len, key, key_len, out, room, needed, &mut place, &mut cause,
+            )
+        })
+        .map_err(|status| selector_error_of(status, place, cause))
     }
 
     // What a call with a selector answers, which says also where and why it is none.
@@ -308,6 +345,18 @@ impl Document {
             status => Err(status),
         }
     }
+}
+
+// The values that `tl_select_values` puts, in order.
+fn values_in(bytes: &[u8]) -> Result<Vec<String>, u8> {
+    let mut values = Vec::new();
+    let Some((_, parts)) = bytes.split_last() else {
+        return Ok(values);
+    };
+    for part in parts.split(|byte| *byte == 255) {
+        calls::push(&mut values, calls::text_in(part)?)?;
+    }
+    Ok(values)
 }
 
 // A text as it is lent.

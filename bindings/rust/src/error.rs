@@ -30,6 +30,8 @@ pub enum Error {
     OutOfProportion,
     /// The base of links is no URL.
     NoUrl,
+    /// With the tags changed the page has another tree, so its elements are changed by a call of their own.
+    OtherTree,
     /// Memory ran out, or the numbers of 32 bits for the parts of a tree did.
     OutOfMemory,
 }
@@ -46,6 +48,7 @@ impl fmt::Display for Error {
             Error::TooLong => f.write_str("the page is too long"),
             Error::OutOfProportion => f.write_str("the tree of the page is out of proportion"),
             Error::NoUrl => f.write_str("the base is no URL"),
+            Error::OtherTree => f.write_str("with these values the page has another tree"),
             Error::OutOfMemory => f.write_str("out of memory"),
         }
     }

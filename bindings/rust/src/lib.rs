@@ -24,6 +24,7 @@
 
 mod calls;
 mod document;
+mod each;
 mod error;
 mod link;
 mod node;
@@ -34,12 +35,13 @@ mod table;
 mod tree;
 
 pub use document::{Document, Select};
+pub use each::Change;
 pub use error::{Cause, Error};
 pub use link::{Link, join_url};
 pub use node::{Attrs, Children, Kind, Namespace, Node, Texts};
 pub use patch::{Content, Edit, edit, set_attribute, unset_attribute};
 pub use policy::{Lists, Policy, Reason, sanitize_by};
-pub use selector::{Selector, css_escape};
+pub use selector::{Selector, ToSelector, css_escape};
 
 /// What the policy for the text of a blog keeps of a page, so that a browser builds just that: no scripts, no handlers of events, no
 /// styles, and links to the web, to mail and within the site alone. What people type is read as browsers read it, so `I <3 you` stays

@@ -3,7 +3,7 @@ use crate::calls::{self, OfNode};
 use crate::document::{Select, lent_text};
 use crate::table;
 use crate::tree::Tree;
-use crate::{Document, Error};
+use crate::{Document, Error, ToSelector};
 use std::borrow::Cow;
 use std::fmt;
 use std::hash::{Hash, Hasher};
@@ -314,9 +314,17 @@ impl<'d> Node<'d> {
     /// assert_eq!(list.select("> li")?.len(), 1);
     /// # Ok::<(), tlhtml::Error>(())
     /// ```
-    pub fn select(self, selector: impl AsRef<str>) -> Result<Select<'d>, Error> {
-        let (at, len) = lent_text(selector.as_ref());
+    pub fn select(self, selector: impl ToSelector) -> Result<Select<'d>, Error> {
         let node = self.number;
+        if let Some(mut compiled) = selector.compiled(true) {
+            let own = compiled.handle();
+            return self
+                .document
+                .selected(|handle, numbers, room, needed, _, _| unsafe {
+                    calls::tl_compiled_select_below(handle, node, own, numbers, room, needed)
+                });
+        }
+        let (at, len) = lent_text(selector.text());
         self.document
             .selected(|handle, numbers, room, needed, place, cause| unsafe {
                 calls::tl_node_select_css(
@@ -326,8 +334,13 @@ impl<'d> Node<'d> {
     }
 
     /// The first of them.
-    pub fn first(self, selector: impl AsRef<str>) -> Result<Option<Node<'d>>, Error> {
-        let (at, len) = lent_text(selector.as_ref());
+    pub fn first(self, selector: impl ToSelector) -> Result<Option<Node<'d>>, Error> {
+        if let Some(mut compiled) = selector.compiled(true) {
+            return self.document.selected_one(|handle, number, _, _| unsafe {
+                calls::tl_compiled_first_below(handle, self.number, compiled.handle(), number)
+            });
+        }
+        let (at, len) = lent_text(selector.text());
         self.document
             .selected_one(|handle, number, place, cause| unsafe {
                 calls::tl_node_first_css(handle, self.number, at, len, number, place, cause)
@@ -335,8 +348,13 @@ impl<'d> Node<'d> {
     }
 
     /// Of it and the elements that it stands in the innermost one that matches a CSS selector. `:scope` is the node.
-    pub fn closest(self, selector: impl AsRef<str>) -> Result<Option<Node<'d>>, Error> {
-        let (at, len) = lent_text(selector.as_ref());
+    pub fn closest(self, selector: impl ToSelector) -> Result<Option<Node<'d>>, Error> {
+        if let Some(mut compiled) = selector.compiled(false) {
+            return self.document.selected_one(|handle, number, _, _| unsafe {
+                calls::tl_compiled_closest(handle, self.number, compiled.handle(), number)
+            });
+        }
+        let (at, len) = lent_text(selector.text());
         self.document
             .selected_one(|handle, number, place, cause| unsafe {
                 calls::tl_node_closest_css(handle, self.number, at, len, number, place, cause)
@@ -344,12 +362,26 @@ impl<'d> Node<'d> {
     }
 
     /// Whether it matches a CSS selector. All but one of a type, ids, classes and attributes (`li.a[href]`) is asked of the whole page.
-    pub fn matches(self, selector: impl AsRef<str>) -> Result<bool, Error> {
-        let (at, len) = lent_text(selector.as_ref());
+    pub fn matches(self, selector: impl ToSelector) -> Result<bool, Error> {
+        let (at, len) = lent_text(selector.text());
+        let compiled = selector.compiled(false);
         self.document.by_selector(|lent, place, cause| {
-            let (handle, mut matches) = (&mut lent.handle, 0);
+            let (handle, node, mut matches): (*mut _, _, _) = (&mut lent.handle, self.number, 0);
             match unsafe {
-                calls::tl_node_matches_css(handle, self.number, at, len, &mut matches, place, cause)
+                match compiled {
+                    Some(mut own) => {
+                        calls::tl_compiled_matches(handle, node, own.handle(), &mut matches)
+                    }
+                    None => calls::tl_node_matches_css(
+                        handle,
+                        node,
+                        at,
+                        len,
+                        &mut matches,
+                        place,
+                        cause,
+                    ),
+                }
             } {
                 calls::DONE => Ok(matches == 1),
                 status => Err(status),

@@ -1,6 +1,6 @@
 //! Pages with tags and elements changed, and each other byte as it was.
 use crate::calls;
-use crate::{Cause, Error};
+use crate::{Cause, Error, ToSelector};
 use std::borrow::Cow;
 
 /// The page with an attribute set in the start tag of each element that matches a CSS selector. No other byte is changed: not the doctype, quotes,
@@ -14,16 +14,16 @@ use std::borrow::Cow;
 /// ```
 pub fn set_attribute(
     page: &str,
-    selector: impl AsRef<str>,
+    selector: impl ToSelector,
     key: &str,
     value: &str,
 ) -> Result<String, Error> {
-    patch(0, page, selector.as_ref(), key, value)
+    patch(0, page, selector.text(), key, value)
 }
 
 /// The page with a key unset there.
-pub fn unset_attribute(page: &str, selector: impl AsRef<str>, key: &str) -> Result<String, Error> {
-    patch(1, page, selector.as_ref(), key, "")
+pub fn unset_attribute(page: &str, selector: impl ToSelector, key: &str) -> Result<String, Error> {
+    patch(1, page, selector.text(), key, "")
 }
 
 fn patch(edit: u8, page: &str, selector: &str, key: &str, value: &str) -> Result<String, Error> {
@@ -50,8 +50,8 @@ fn patch(edit: u8, page: &str, selector: &str, key: &str, value: &str) -> Result
     patched.map_err(|status| error_of(status, page, place, cause))
 }
 
-// Why a page isn't changed.
-fn error_of(status: u8, page: &str, place: usize, cause: u8) -> Error {
+/// Why a page isn't changed.
+pub(crate) fn error_of(status: u8, page: &str, place: usize, cause: u8) -> Error {
     match cause {
         0 => calls::page_error_of(status, page),
         1..16 => Error::NoSelector {
@@ -98,8 +98,8 @@ pub enum Edit<'c> {
 }
 
 impl<'c> Edit<'c> {
-    // The numbers of the edit and of what its bytes are, and the bytes.
-    fn lent(self) -> (u8, u8, &'c str) {
+    /// The numbers of the edit and of what its bytes are, and the bytes.
+    pub(crate) fn lent(self) -> (u8, u8, &'c str) {
         let (edit, content) = match self {
             Edit::Rename(name) => return (0, 0, name),
             Edit::Remove => return (1, 0, ""),
@@ -128,8 +128,8 @@ impl<'c> Edit<'c> {
 /// assert_eq!(edit(page, "b", Edit::Unwrap)?, "<!DOCTYPE html PUBLIC 'x'>\n<P>one two");
 /// # Ok::<(), tlhtml::Error>(())
 /// ```
-pub fn edit(page: &str, selector: impl AsRef<str>, edit: Edit<'_>) -> Result<String, Error> {
-    let selector = selector.as_ref();
+pub fn edit(page: &str, selector: impl ToSelector, edit: Edit<'_>) -> Result<String, Error> {
+    let selector = selector.text();
     let (number, form, content) = edit.lent();
     // (names are in lower case, as keys are)
     let content = match edit {

@@ -2,10 +2,12 @@
 use crate::Error;
 use crate::calls::{self, Handle};
 use crate::document::{lent_text, selector_error_of};
+use std::hash::{Hash, Hasher};
+use std::sync::{Arc, Mutex, MutexGuard};
 use std::{fmt, ptr};
 
-/// A selector of CSS that is looked at once: a wrong one is an error where it is made. Each call that takes the text of a selector takes it
-/// too.
+/// A selector of CSS that is read once: a wrong one is an error where it is made. Each call that takes the text of a selector takes it
+/// too. Below a node it may begin with a combinator, as its text may.
 ///
 /// ```
 /// use tlhtml::{Document, Selector};
@@ -14,58 +16,137 @@ use std::{fmt, ptr};
 /// assert_eq!(Selector::parse("li:hover").unwrap_err().to_string(), "no selector: at byte 3: no such pseudo-class");
 /// # Ok::<(), tlhtml::Error>(())
 /// ```
-#[derive(Clone, Debug, PartialEq, Eq, Hash)]
-pub struct Selector(String);
+#[derive(Clone)]
+pub struct Selector {
+    text: String,
+    // Whether it begins with no combinator.
+    is_whole: bool,
+    // While a call lasts it holds none; so a thread that comes in between asks by the text.
+    own: Arc<Mutex<Compiled>>,
+}
+
+// `tl_compiled`.
+struct Compiled(Handle);
+
+// SAFETY: as of a document, all that it leads to is its own, and the lock lets one call at a time use it.
+unsafe impl Send for Compiled {}
+
+impl Drop for Compiled {
+    fn drop(&mut self) {
+        unsafe { calls::tl_free_compiled(&mut self.0) }
+    }
+}
 
 impl Selector {
     /// The selector that a text is, which may begin with a combinator, as below a node.
     pub fn parse(text: &str) -> Result<Selector, Error> {
-        let mut handle = Handle {
+        let mut own = Compiled(Handle {
             at: ptr::null_mut(),
-        };
-        let (mut number, mut place, mut cause) = (0, 0, 0);
+        });
+        let (mut place, mut cause) = (0, 0);
         let (at, len) = lent_text(text);
-        let status = unsafe {
-            let status = match calls::tl_parse_html(lent_text("").0, 0, &mut handle) {
-                calls::DONE => calls::tl_node_first_css(
-                    &mut handle,
-                    0,
-                    at,
-                    len,
-                    &mut number,
-                    &mut place,
-                    &mut cause,
-                ),
-                status => status,
-            };
-            calls::tl_free(&mut handle);
-            status
-        };
-        match status {
+        match unsafe { calls::tl_compile_css(at, len, &mut own.0, &mut place, &mut cause) } {
             calls::DONE => {}
-            calls::REFUSED if cause == 0 => {}
             status => return Err(selector_error_of(status, place, cause)),
         }
-        calls::text_in(text.as_bytes())
-            .map(Selector)
-            .map_err(calls::error_of)
+        // (without a document nothing is found, and a cause is told all the same)
+        let (mut none, mut number) = (
+            Handle {
+                at: ptr::null_mut(),
+            },
+            0,
+        );
+        let is_whole = unsafe {
+            match calls::tl_first_css(&mut none, at, len, &mut number, &mut place, &mut cause) {
+                calls::REFUSED => cause == 0,
+                status => return Err(selector_error_of(status, place, cause)),
+            }
+        };
+        Ok(Selector {
+            text: calls::text_in(text.as_bytes()).map_err(calls::error_of)?,
+            is_whole,
+            own: Arc::new(Mutex::new(own)),
+        })
     }
 
     /// Its text.
     pub fn as_str(&self) -> &str {
-        &self.0
+        &self.text
     }
 }
 
-impl AsRef<str> for Selector {
-    fn as_ref(&self) -> &str {
-        &self.0
+impl fmt::Debug for Selector {
+    fn fmt(&self, f: &mut fmt::Formatter<'_>) -> fmt::Result {
+        f.debug_tuple("Selector").field(&self.text).finish()
     }
 }
 
 impl fmt::Display for Selector {
     fn fmt(&self, f: &mut fmt::Formatter<'_>) -> fmt::Result {
-        f.write_str(&self.0)
+        f.write_str(&self.text)
+    }
+}
+
+impl PartialEq for Selector {
+    fn eq(&self, other: &Selector) -> bool {
+        self.text == other.text
+    }
+}
+
+impl Eq for Selector {}
+
+impl Hash for Selector {
+    fn hash<H: Hasher>(&self, state: &mut H) {
+        self.text.hash(state);
+    }
+}
+
+/// What a call takes for a selector: a text, or a [`Selector`], which was read.
+pub trait ToSelector {
+    /// Its text.
+    fn text(&self) -> &str;
+
+    /// What a call is lent, if it was read and no other thread asks by it just now. Below a node it may begin with a combinator.
+    #[doc(hidden)]
+    fn compiled(&self, _is_below: bool) -> Option<Lent<'_>> {
+        None
+    }
+}
+
+/// A selector that was read, while a call lasts.
+#[doc(hidden)]
+pub struct Lent<'s>(MutexGuard<'s, Compiled>);
+
+impl Lent<'_> {
+    pub(crate) fn handle(&mut self) -> *mut Handle {
+        &mut self.0.0
+    }
+}
+
+impl<T: AsRef<str> + ?Sized> ToSelector for T {
+    fn text(&self) -> &str {
+        self.as_ref()
+    }
+}
+
+impl ToSelector for Selector {
+    fn text(&self) -> &str {
+        &self.text
+    }
+
+    fn compiled(&self, is_below: bool) -> Option<Lent<'_>> {
+        let is_asked = is_below || self.is_whole;
+        self.own.try_lock().ok().filter(|_| is_asked).map(Lent)
+    }
+}
+
+impl ToSelector for &Selector {
+    fn text(&self) -> &str {
+        &self.text
+    }
+
+    fn compiled(&self, is_below: bool) -> Option<Lent<'_>> {
+        (**self).compiled(is_below)
     }
 }
 

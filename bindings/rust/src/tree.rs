@@ -37,6 +37,11 @@ impl Tree {
         })
     }
 
+    /// Whether these are the same nodes at the same places.
+    pub(crate) fn is_alike(&self, other: &Tree) -> bool {
+        self.numbers == other.numbers
+    }
+
     pub(crate) fn len(&self) -> usize {
         self.numbers.len() / 4
     }

@@ -1,3 +1,4 @@
+pub mod CompiledSelectors
 pub mod Founds
 pub mod Given
 pub mod Keys
@@ -7,6 +8,7 @@ pub mod Room
 pub mod Rows
 pub mod SafePages
 pub mod Selectors
+mod SelectorValues
 mod Texts
 mod Values
 pub mod Joined

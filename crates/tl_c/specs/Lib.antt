@@ -1,8 +1,11 @@
+pub mod CompiledSelectors
 pub mod Css
 pub mod Edits
 pub mod Extracts
 pub mod EncodedPages
 pub mod LentLists
+pub mod NodeChanges
+pub mod NodeEdits
 pub mod Nodes
 pub mod Owned
 pub mod Patches
@@ -11,4 +14,5 @@ pub mod Puts
 pub mod Queries
 pub mod Readings
 pub mod SafePages
+pub mod FoundValues
 pub mod Whole

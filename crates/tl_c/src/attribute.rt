@@ -25,8 +25,8 @@ fn has_key(attribute: Attribute<'_>, key: &[u8]) -> bool
     own == attribute.key
 }
 
-// The value of a node of a tree at a key.
-fn value_at<'t>(tree: &'t Tree<'_>, node: usize, key: &[u8]) -> Option<&'t [u8]>
+/// The value of a node of a tree at a key.
+pub(crate) fn value_at<'t>(tree: &'t Tree<'_>, node: usize, key: &[u8]) -> Option<&'t [u8]>
     ensures { option_copied result
         ≡ value_at_key key.now (attributes_at (rows_in tree.now) node) }
 {

@@ -87,8 +87,8 @@ pub(crate) fn read_selector(
     }
 }
 
-// The numbers of the elements where a selector holds.
-fn select(
+/// The numbers of the elements where a selector holds.
+pub(crate) fn select(
     alloc: Global,
     held: &Option<Box<ParsedPage>>,
     selector: &Selector,
@@ -116,8 +116,8 @@ fn short_found(found: Option<usize>) -> Result<u32, Failure>
     }
 }
 
-// The number of the first of them.
-fn select_first(
+/// The number of the first of them.
+pub(crate) fn select_first(
     alloc: Global,
     held: &Option<Box<ParsedPage>>,
     selector: &Selector,
@@ -135,8 +135,8 @@ fn select_first(
     short_found(found)
 }
 
-// The numbers of the elements below a node where a selector holds.
-fn select_below(
+/// The numbers of the elements below a node where a selector holds.
+pub(crate) fn select_below(
     alloc: Global,
     held: &Option<Box<ParsedPage>>,
     node: u32,
@@ -154,8 +154,8 @@ fn select_below(
     Ok(short_numbers(alloc, numbers.as_slice())?)
 }
 
-// Whether a selector holds at a node: 1 where it does, and else 0.
-fn holds_at(
+/// Whether a selector holds at a node: 1 where it does, and else 0.
+pub(crate) fn holds_at(
     alloc: Global,
     held: &Option<Box<ParsedPage>>,
     node: u32,
@@ -173,8 +173,8 @@ fn holds_at(
     Ok(one_if(holds))
 }
 
-// The number of the innermost element from a node on outwards where a selector holds.
-fn innermost(
+/// The number of the innermost element from a node on outwards where a selector holds.
+pub(crate) fn innermost(
     alloc: Global,
     held: &Option<Box<ParsedPage>>,
     node: u32,

@@ -3,12 +3,14 @@ ghost use Rattle.std.specs.Prelude.{◌≡◌, ◌≢◌, ℕ, Bool, List, None,
 ghost use Rattle.tl_c.specs.Css.{AreFoundBelowBy, AreFoundBy, IsClosestBy, IsFirstBy, IsTold, TellsAt, answer_by, css_by, css_in, first_of, found_or_refused, wrong_by, wrong_in};
 ghost use Rattle.tl_c.specs.Queries.{one_if, tree_held, tree_in};
 ghost use Rattle.tl_c.specs.Puts.{Puts, PutsOne};
+ghost use Rattle.tl_c.specs.FoundValues.{values_by};
 ghost use Rattle.tl_c.specs.declared.css.Reading.TheVariants.{Relative};
 ghost use Rattle.tl_spec.specs.Lex.ByteClass.{largest_u32};
 
 use crate::copy_out::{copy_result, first, put_one};
 use crate::css::{css_holds_at, find_closest_css, find_css, find_css_below, find_first_css};
 use crate::document::Document;
+use crate::found_values::find_values;
 use crate::held::NO_NODE;
 use std::alloc::Global;
 
@@ -65,6 +67,34 @@ pub extern "C" fn tl_first_css(
     let found = find_first_css(alloc, &held, selector, place, cause);
     let _nothing = document.replace(alloc, held);
     put_one(found, NO_NODE, number)
+}
+
+/// The values at a key of the elements of a document where a selector of CSS holds, in order, with
+/// a byte 255 behind each; an element without the key has none. Keys are compared as they are
+/// serialized. A text that is no selector is refused, with its place and cause as above.
+#[unsafe(no_mangle)]
+pub extern "C" fn tl_select_values(
+    alloc: Global,
+    document: &mut Document,
+    selector: &[u8],
+    key: &[u8],
+    out: &mut [u8],
+    needed: &mut usize,
+    place: &mut usize,
+    cause: &mut u8,
+) -> u8
+    ensures same { document.new.held ≡ document.old.held }
+    ensures finds { (ns : List ℕ) → let css = css_in selector.now in
+        AreFoundBy css document.old.held ns →
+        let outcome = values_by css key.now document.old.held ns in
+        Puts outcome out.old out.new needed.new result }
+    ensures told { result ≢ 3 → IsTold (wrong_in selector.now) place.new cause.new }
+    ensures lost { result ≡ 3 → IsTold None place.new cause.new }
+{
+    let held = document.replace(alloc, None);
+    let found = find_values(alloc, &held, selector, key, place, cause);
+    let _nothing = document.replace(alloc, held);
+    copy_result(found, out, needed)
 }
 
 /// The numbers of the elements below a node where a selector of CSS holds, which may begin with a

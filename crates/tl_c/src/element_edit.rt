@@ -39,8 +39,8 @@ fn placed_of<'c>(number: u8, content: Content<'c>) -> Option<ElementPatch<'c>>
     }
 }
 
-// The patch that a number asks for.
-fn patch_of<'c>(number: u8, form: u8, content: &'c [u8]) -> Option<ElementPatch<'c>>
+/// The patch that a number asks for.
+pub(crate) fn patch_of<'c>(number: u8, form: u8, content: &'c [u8]) -> Option<ElementPatch<'c>>
     ensures { option_map patch_view result ≡ patch_of_number number form content.now }
 {
     match number {
@@ -51,8 +51,8 @@ fn patch_of<'c>(number: u8, form: u8, content: &'c [u8]) -> Option<ElementPatch<
     }
 }
 
-// Says where in the page an element can't be changed, and the number of why; else 0 and 0.
-fn report(error: SelectionEditError, place: &mut usize, cause: &mut u8) -> Failure
+/// Says where in the page an element can't be changed, and the number of why; else 0 and 0.
+pub(crate) fn report(error: SelectionEditError, place: &mut usize, cause: &mut u8) -> Failure
     ensures place { place.new ≡ place_of_edit_error error }
     ensures cause { cause.new ≡ number_of_edit_error error }
     ensures failure { result ≢ Fault }

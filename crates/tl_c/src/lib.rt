@@ -3,6 +3,10 @@
 #![tactic(auto)]
 
 mod attribute;
+mod change_calls;
+mod compiled;
+mod compiled_calls;
+mod compiled_css;
 mod copy_out;
 mod css;
 mod css_calls;
@@ -12,15 +16,21 @@ mod element_edit;
 mod encoding_calls;
 mod extract;
 mod extract_calls;
+mod found_values;
 mod held;
+mod lent_change;
+mod lent_edit;
 mod lent_lists;
 mod markup;
 mod node;
 mod node_calls;
+mod node_edit;
+mod node_patch;
 mod own_policy;
 mod page;
 mod page_calls;
 mod parsed_page;
+mod parsed_selector;
 mod patch;
 mod policy;
 mod position;

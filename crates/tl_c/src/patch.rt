@@ -13,8 +13,8 @@ use tl_page::Failure;
 use tl_patch::Change;
 use tl_patch_select::{Patched, SelectionPatchError, patch_selected};
 
-// The change that a number asks for.
-fn change_of<'k>(number: u8, key: &'k [u8], value: &'k [u8]) -> Option<Change<'k>>
+/// The change that a number asks for.
+pub(crate) fn change_of<'k>(number: u8, key: &'k [u8], value: &'k [u8]) -> Option<Change<'k>>
     ensures { option_map change_view result ≡ change_of_number number key.now value.now }
 {
     match number {
@@ -24,8 +24,8 @@ fn change_of<'k>(number: u8, key: &'k [u8], value: &'k [u8]) -> Option<Change<'k
     }
 }
 
-// Says where in the page the tags can't be changed, and the number of why; else 0 and 0.
-fn report(error: SelectionPatchError, place: &mut usize, cause: &mut u8) -> Failure
+/// Says where in the page the tags can't be changed, and the number of why; else 0 and 0.
+pub(crate) fn report(error: SelectionPatchError, place: &mut usize, cause: &mut u8) -> Failure
     ensures place { place.new ≡ place_of_patch_error error }
     ensures cause { cause.new ≡ number_of_patch_error error }
     ensures failure { result ≢ Fault }

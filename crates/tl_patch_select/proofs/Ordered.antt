@@ -9,7 +9,7 @@ use Rattle.tl_patch.specs.PatchView.{PlacedChange, patch_view}
 use Rattle.tl_patch.specs.declared.tag_patch.TagPatch.{TagPatch}
 use Rattle.tl_patch_select.specs.Nodes.{AreInOrder, place_in}
 
-filter-map : {A B : Type 0} (test : B → Bool) (f : A → B) (xs : List A) → filter test (map f xs) ≡ map f (filter (λ x. test (f x)) xs)
+pub filter-map : {A B : Type 0} (test : B → Bool) (f : A → B) (xs : List A) → filter test (map f xs) ≡ map f (filter (λ x. test (f x)) xs)
 filter-map test f [] = refl
 filter-map {A} {B} test f (x ∷ xs) = one (filter-map test f xs) (test (f x)) refl
   where

@@ -16,6 +16,7 @@ use Rattle.tl_patch_spec.specs.Patches.{Patch}
 use Rattle.tl_patch_spec.specs.TagChanges.{TagChange}
 use Rattle.tl_patch_spec.specs.Together.{at_each}
 use Rattle.tl_patch_select.specs.Errors.{error_of_edit, error_of_patch}
+use Rattle.tl_patch_select.specs.NodeEdits.{AreEditsInOrder, AreEditsReason, AreNumbersOf, IsOneNotWhole, placed_edits}
 use Rattle.tl_patch_select.specs.Nodes.{AreInOrder, ChangeOf, all_placed}
 use Rattle.tl_patch_select.specs.Patched.{changes_at}
 use Rattle.tl_patch_select.specs.Reasons.{AreNodesReason, IsElementReason, IsTagReason}
@@ -64,6 +65,17 @@ element_reason_of_edit e patch tree page places r (edit.Misread p by) selected i
 element_reason_of_edit e patch tree page places r (edit.ReadOtherwise p) selected is says = record { places = places; selected = selected; refused = says.read_otherwise p is; reason = tt }
 element_reason_of_edit e patch tree page places r edit.OutOfMemory selected is says = tt
 
+pub edits_reason_of_edit : {T : Type 0} (edits : List (ℕ × Patch)) (tree : Tree) (page : List ℕ) (sorted : List (ℕ × Patch)) (r : Result T EditError) (error : EditError) → AreEditsInOrder (placed_edits tree edits) sorted → r ≡ Err error →
+    SaysOfElements page sorted r → AreEditsReason edits tree page (error_of_edit error)
+edits_reason_of_edit edits tree page sorted r (edit.NoStartTag p) order is says = record { sorted = sorted; in_order = order; refused = says.no_start p is; reason = tt }
+edits_reason_of_edit edits tree page sorted r (edit.NotMeant p) order is says = record { sorted = sorted; in_order = order; refused = says.not_meant p is; reason = tt }
+edits_reason_of_edit edits tree page sorted r (edit.EndOfPage p) order is says = record { sorted = sorted; in_order = order; refused = says.past_end p is; reason = tt }
+edits_reason_of_edit edits tree page sorted r (edit.NotWritten p) order is says = record { sorted = sorted; in_order = order; refused = says.not_written p is; reason = tt }
+edits_reason_of_edit edits tree page sorted r (edit.Across p) order is says = record { sorted = sorted; in_order = order; refused = says.across p is; reason = tt }
+edits_reason_of_edit edits tree page sorted r (edit.Misread p by) order is says = record { sorted = sorted; in_order = order; refused = says.misread p by is; reason = tt }
+edits_reason_of_edit edits tree page sorted r (edit.ReadOtherwise p) order is says = record { sorted = sorted; in_order = order; refused = says.read_otherwise p is; reason = tt }
+edits_reason_of_edit edits tree page sorted r edit.OutOfMemory order is says = tt
+
 -- the elements that are whole, and the one that isn't
 
 pub whole_selected : (page : List ℕ) (tree : Tree) (numbers same : List ℕ) (found : Option Crossed) → same ≡ numbers → found ≡ None → IfNone found (All (IsWhole page tree) same) → All (IsWhole page tree) numbers
@@ -74,5 +86,13 @@ pub not_whole : (e : Css) (tree : Tree) (page numbers same : List ℕ) (found : 
 not_whole e tree page numbers same found crossed are i n h = record {
   numbers = numbers;
   found = are;
+  one = subst (λ (xs : List ℕ). IsOneCrossed page tree xs crossed.place crossed.at) i (MatchOption-at_some _ _ crossed n h);
+}
+
+pub one_not_whole : (edits : List (ℕ × Patch)) (tree : Tree) (page numbers same : List ℕ) (found : Option Crossed) (crossed : Crossed) → AreNumbersOf edits numbers → same ≡ numbers → found ≡ Some crossed →
+    IfSome found (λ (c : Crossed). IsOneCrossed page tree same c.place c.at) → IsOneNotWhole edits tree page crossed.place crossed.at
+one_not_whole edits tree page numbers same found crossed are i n h = record {
+  numbers = numbers;
+  are_numbers = are;
   one = subst (λ (xs : List ℕ). IsOneCrossed page tree xs crossed.place crossed.at) i (MatchOption-at_some _ _ crossed n h);
 }

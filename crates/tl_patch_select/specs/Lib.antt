@@ -1,6 +1,7 @@
 pub mod Errors
 pub mod Selected
 pub mod Patched
+pub mod NodeEdits
 pub mod Nodes
 pub mod Whole
 pub mod Edited

@@ -58,8 +58,17 @@ fn untagged(tree: &Tree<'_>, numbers: &[usize]) -> Option<usize>
     None
 }
 
-// Puts places in order, each once.
-fn put_in_order(places: &mut Vec<usize>)
+/// Where the first of some elements was put in that no tag stands for, if there is one; the page
+/// has such a length.
+pub(crate) fn untagged_at(tree: &Tree<'_>, page_len: usize, numbers: &[usize]) -> Option<usize>
+    ensures { result ≡ untagged_at tree.now page_len numbers.now }
+{
+    let number = untagged(tree, numbers)?;
+    Some(first_place(tree, number, page_len))
+}
+
+/// Puts numbers in order, each once.
+pub(crate) fn put_in_order(places: &mut Vec<usize>)
     ensures rising { IsStrictlyIncreasing places.new.items }
     ensures kept { (place : ℕ) →
         Contains places.old.items place → Contains places.new.items place }
@@ -113,7 +122,6 @@ impl Selected {
     pub(crate) fn untagged_at(&self, tree: &Tree<'_>, page_len: usize) -> Option<usize>
         ensures { result ≡ untagged_at tree.now page_len self.now.numbers.items }
     {
-        let number = untagged(tree, self.numbers.as_slice())?;
-        Some(first_place(tree, number, page_len))
+        untagged_at(tree, page_len, self.numbers.as_slice())
     }
 }
