@@ -3,6 +3,7 @@ pub mod Edits
 pub mod Extracts
 pub mod EncodedPages
 pub mod LentLists
+pub mod Removals
 pub mod Nodes
 pub mod Owned
 pub mod Patches
