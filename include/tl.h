@@ -196,6 +196,66 @@ tl_status tl_list_options(const tl_lists *lists, uint8_t *out, size_t room, size
  * why, and in which list the word stands. Lists that are a policy have no such word: that is refused, and `*cause` is 0. */
 tl_status tl_refused_word(const tl_lists *lists, uint8_t *out, size_t room, size_t *needed, uint8_t *cause);
 
+/* A number in 8 bytes, the lowest first. */
+static inline uint64_t tl_number_at(const uint8_t *bytes) {
+    uint64_t number = 0;
+    for (int place = 7; place >= 0; place--) number = number << 8 | bytes[place];
+    return number;
+}
+
+/* Why something goes of a page. */
+enum {
+    TL_WHY_UNLISTED_TAG = 1,  /* the tag isn't listed: what is in the element stands in its place */
+    TL_WHY_OPAQUE_TAG = 2,    /* what is in the element is no markup of HTML, or isn't shown: it goes with all of that */
+    TL_WHY_FOREIGN_TAG = 3,   /* the element is one of `svg` or `math`: it goes with all that is in it */
+    TL_WHY_MISPLACED_TAG = 4, /* the tag is listed, and may not stand where it is: what is in it stands in its place */
+    TL_WHY_UNLISTED_KEY = 5,  /* the key isn't listed */
+    TL_WHY_UNLISTED_VALUE = 6 /* the value may not stand at its key, as a link that begins with what no link may */
+};
+
+/* It in words. */
+static inline const char *tl_why_text(uint8_t why) {
+    switch (why) {
+    case TL_WHY_UNLISTED_TAG: return "the tag isn't listed";
+    case TL_WHY_OPAQUE_TAG: return "what is in it isn't shown as markup";
+    case TL_WHY_FOREIGN_TAG: return "it is no element of HTML";
+    case TL_WHY_MISPLACED_TAG: return "the tag may not stand here";
+    case TL_WHY_UNLISTED_KEY: return "the key isn't listed";
+    case TL_WHY_UNLISTED_VALUE: return "the value may not stand here";
+    default: return "no reason";
+    }
+}
+
+/* What goes of the page by a policy of these lists, in the order of the page, so that an app can tell its author: each element that goes, but
+ * those in one that goes whole, and of each that stays the attributes that go. An element that the standard puts in, which nobody wrote,
+ * isn't told, nor are values that change. `tl_next_removal` reads them. The status and `*cause` are those of `tl_sanitize_html_with`. */
+tl_status tl_removed_html(const tl_lists *lists, const uint8_t *page, size_t page_len,
+                          uint8_t *out, size_t room, size_t *needed, uint8_t *cause);
+
+/* What goes, where it stands in the answer. */
+typedef struct {
+    size_t start, end;         /* where the start tag of the element stands in the page, behind a byte order mark */
+    const uint8_t *name, *key; /* the name of the element, and the key of the attribute */
+    size_t name_len, key_len;  /* `key_len` is 0 where the element itself goes */
+    uint8_t why;
+} tl_removal;
+
+/* Reads what goes at a place of an answer of `tl_removed_html` and moves the place behind it; false at the end:
+ * for (const uint8_t *at = out; tl_next_removal(&at, out + needed, &removal);) .. */
+static inline bool tl_next_removal(const uint8_t **at, const uint8_t *end, tl_removal *removal) {
+    const uint8_t *head = *at;
+    if (head == end) return false;
+    removal->start = (size_t)tl_number_at(head);
+    removal->end = (size_t)tl_number_at(head + 8);
+    removal->why = (uint8_t)tl_number_at(head + 16);
+    removal->name_len = (size_t)tl_number_at(head + 24);
+    removal->key_len = (size_t)tl_number_at(head + 32);
+    removal->name = head + 40;
+    removal->key = removal->name + removal->name_len;
+    *at = removal->key + removal->key_len;
+    return true;
+}
+
 /* The name of the encoding that a page is in, as "windows-1252": that of its byte-order mark, else of this label of the Encoding standard,
  * else, where the label is empty, what the page says, as browsers tell it. What is no label is refused. It takes no memory. */
 tl_status tl_encoding_of(const uint8_t *label, size_t label_len, const uint8_t *page, size_t page_len, uint8_t *out, size_t room,
@@ -274,13 +334,6 @@ typedef struct {
     size_t key_len, url_len;
     uint32_t node;
 } tl_link;
-
-/* A number in 8 bytes, the lowest first. */
-static inline uint64_t tl_number_at(const uint8_t *bytes) {
-    uint64_t number = 0;
-    for (int place = 7; place >= 0; place--) number = number << 8 | bytes[place];
-    return number;
-}
 
 /* Reads the link at a place of an answer of `tl_document_links` and moves the place behind it; false at the end:
  * for (const uint8_t *at = out; tl_next_link(&at, out + needed, &link);) .. */

@@ -111,6 +111,43 @@ static void of_policies(void) {
 static size_t place;
 static uint8_t cause;
 
+/* What goes of a page, where and why. */
+static void of_removals(void) {
+    static const char page[] = "\xef\xbb\xbf<P onclick=f()>x\n<svg><path></svg><table><td>y<A HREF=javascript:f()>z";
+    static const struct {
+        const char *tag, *name, *key;
+        uint8_t why;
+    } gone[] = {
+        {"<P onclick=f()>", "p", "onclick", TL_WHY_UNLISTED_KEY},
+        {"<svg>", "svg", "", TL_WHY_FOREIGN_TAG},
+        {"<table>", "table", "", TL_WHY_UNLISTED_TAG},
+        {"<td>", "td", "", TL_WHY_UNLISTED_TAG},
+        {"<A HREF=javascript:f()>", "a", "href", TL_WHY_UNLISTED_VALUE},
+    };
+    tl_lists lists = TL_LISTS_OF(TL_BLOG);
+    static uint8_t room[512];
+    size_t row = 0;
+    CHECK(tl_removed_html(&lists, TEXT(page), room, sizeof room, &needed, &cause) == TL_DONE);
+    tl_removal removal;
+    for (const uint8_t *at = room; tl_next_removal(&at, room + needed, &removal); row++) {
+        CHECK(row < sizeof gone / sizeof gone[0] && removal.why == gone[row].why && strlen(tl_why_text(removal.why)) > 9);
+        CHECK(removal.end - removal.start == strlen(gone[row].tag));
+        CHECK(memcmp(page + 3 + removal.start, gone[row].tag, removal.end - removal.start) == 0);
+        CHECK(removal.name_len == strlen(gone[row].name) && memcmp(removal.name, gone[row].name, removal.name_len) == 0);
+        CHECK(removal.key_len == strlen(gone[row].key) && memcmp(removal.key, gone[row].key, removal.key_len) == 0);
+    }
+    CHECK(row == sizeof gone / sizeof gone[0]);
+    PUTS("", tl_removed_html(&lists, TEXT("<p>x</p>"), OUT, &cause));
+    LEAVES(TL_NO_ROOM, 46, tl_removed_html(&lists, TEXT("<script>"), ROOM(45), &cause));
+    LEAVES(TL_NOT_UNDERSTOOD, 0, tl_removed_html(&lists, TEXT("\xff"), OUT, &cause));
+    CHECK(cause == TL_NO_REASON);
+    lists.tags = tl_list_of("script");
+    LEAVES(TL_REFUSED, 0, tl_removed_html(&lists, TEXT(page), OUT, &cause));
+    CHECK(cause == TL_OPAQUE_TAG);
+    lists = (tl_lists)TL_LISTS_OF(TL_BLOG);
+    RUNS_OUT("", tl_removed_html(&lists, TEXT("<p>x</p>"), OUT, &cause));
+}
+
 /* Lists of one's own over those of a policy, and the word that no policy may list. */
 static void of_lists(void) {
     static const char written[] = "<P CLASS=own-a>x<A HREF=b.png>y</A><H1>z</H1><b>c</b>";
@@ -342,6 +379,7 @@ int main(void) {
     of_sanitize_html();
     of_policies();
     of_lists();
+    of_removals();
     of_patch();
     of_elements();
     of_words();

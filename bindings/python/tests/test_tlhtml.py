@@ -12,7 +12,7 @@ import unittest
 
 import tlhtml
 from tlhtml import ChangeError, Document, Edit, Error, OutOfProportion, Policy, PolicyError, Selector, SelectorError, TooLong
-from tlhtml import css_escape, edit, sanitize, set_attribute, unset_attribute
+from tlhtml import css_escape, edit, removed, sanitize, set_attribute, unset_attribute
 
 PAGE = "<UL><LI hidden class=a @click=f() href='?a=1&b=2&lt;'>x &amp; y<LI>3 < 4</UL><!-- c --><p>z"
 
@@ -612,6 +612,21 @@ class SafePages(unittest.TestCase):
         links = "<a href=b.png>x</a><a href=/y>z</a>"
         self.assertEqual(sanitize(links, Policy.BLOG.lists(relative_links=True)), '<a href="b.png">x</a><a href="/y">z</a>')
         self.assertEqual(sanitize(links, Policy.BLOG.lists(nofollow_links=True)), '<a>x</a><a rel="nofollow noopener" href="/y">z</a>')
+
+    def test_what_goes(self):
+        page = "\ufeff<P onclick=f()>é\n<script>y</script>é<table><td>z<a href=javascript:f()>"
+        self.assertEqual(
+            [tuple(it) for it in removed(page)],
+            [
+                ("p", "onclick", "the key isn't listed", 1, 0),
+                ("script", None, "what is in it isn't shown as markup", 2, 0),
+                ("table", None, "the tag isn't listed", 2, 19),
+                ("td", None, "the tag isn't listed", 2, 26),
+                ("a", "href", "the value may not stand here", 2, 31),
+            ],
+        )
+        self.assertEqual(removed("<p>x"), [])
+        self.assertEqual([it.tag for it in removed("<p>x<b>y", Policy.COMMENTS.lists(tags=["b"]))], ["p"])
 
     def test_words_that_no_policy_may_list(self):
         for words, word, reason in (

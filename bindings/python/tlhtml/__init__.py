@@ -11,7 +11,7 @@ from ._changes import edit, set_attribute, unset_attribute
 from ._document import Document, Link, Node, join_url
 from ._each import Edit
 from ._errors import ChangeError, Error, OutOfProportion, PolicyError, SelectorError, TooLong
-from ._policy import Lists, Policy, sanitize
+from ._policy import Lists, Policy, Removal, removed, sanitize
 from ._selectors import Selector, css_escape
 
 __all__ = [
@@ -25,12 +25,14 @@ __all__ = [
     "OutOfProportion",
     "Policy",
     "PolicyError",
+    "Removal",
     "Selector",
     "SelectorError",
     "TooLong",
     "css_escape",
     "edit",
     "join_url",
+    "removed",
     "sanitize",
     "set_attribute",
     "unset_attribute",

@@ -84,6 +84,7 @@ for _name, _kind, _words in (
     ("tl_sanitize_html", ctypes.c_uint8, _LENT + _OUT),
     ("tl_sanitize_html_by", ctypes.c_uint8, [ctypes.c_uint8] + _LENT + _OUT),
     ("tl_sanitize_html_with", ctypes.c_uint8, [ctypes.POINTER(Lists)] + _LENT + _OUT + [ctypes.POINTER(ctypes.c_uint8)]),
+    ("tl_removed_html", ctypes.c_uint8, [ctypes.POINTER(Lists)] + _LENT + _OUT + [ctypes.POINTER(ctypes.c_uint8)]),
     ("tl_list_options", ctypes.c_uint8, [ctypes.POINTER(Lists)] + _OUT),
     ("tl_refused_word", ctypes.c_uint8, [ctypes.POINTER(Lists)] + _OUT + [ctypes.POINTER(ctypes.c_uint8)]),
     ("tl_edit_css", ctypes.c_uint8, [ctypes.c_uint8] * 2 + _LENT * 3 + _OUT + _PLACE),
@@ -156,6 +157,7 @@ def page_error_of(status: int, page: bytes) -> Exception:
 
 _LENGTHS = struct.Struct("<QQ")
 _LINK = struct.Struct("<QQQ")
+_REMOVAL = struct.Struct("<QQQQQ")
 
 
 class Room:
@@ -225,6 +227,18 @@ class Room:
             url = key + key_len
             at = url + url_len
             found.append((number, said[key:url].decode(), said[url:at].decode()))
+        return found
+
+    def removals(self) -> list[tuple[int, int, str, str]]:
+        """What goes, that it was filled with, in order: where the start tag stands, the number of why, the name and the key."""
+        said, at = self.raw(), 0
+        found = []
+        while at < len(said):
+            start, _end, why, name_len, key_len = _REMOVAL.unpack_from(said, at)
+            name = at + _REMOVAL.size
+            key = name + name_len
+            at = key + key_len
+            found.append((start, why, said[name:key].decode(), said[key:at].decode()))
         return found
 
 

@@ -53,6 +53,17 @@ REASONS = {
 }
 
 
+# Why something goes of a page.
+WHYS = {
+    1: "the tag isn't listed",
+    2: "what is in it isn't shown as markup",
+    3: "it is no element of HTML",
+    4: "the tag may not stand here",
+    5: "the key isn't listed",
+    6: "the value may not stand here",
+}
+
+
 # What to write instead of pseudo-classes that browsers have, as `tl` says it.
 _NO_STATES = "a page has no states"
 PSEUDO_CLASSES = {

@@ -3,11 +3,11 @@ from __future__ import annotations
 
 import ctypes
 import enum
-from typing import Iterable, Sequence
+from typing import Iterable, NamedTuple, Sequence
 
 from . import _calls
-from ._calls import DONE, REFUSED, Room, error_of, lib, page_error_of, room_of, utf8
-from ._errors import PolicyError
+from ._calls import DONE, REFUSED, Room, characters, error_of, lib, page_error_of, room_of, utf8
+from ._errors import WHYS, PolicyError
 
 
 class Policy(enum.IntEnum):
@@ -104,6 +104,26 @@ class Lists:
         return room.fill(lib.tl_sanitize_html_with, self._lent, page, len(page), behind=(ctypes.c_uint8(),)), room
 
 
+    def _removed(self, page: bytes) -> tuple[int, Room]:
+        room = Room(ctypes.c_char, 64)
+        return room.fill(lib.tl_removed_html, self._lent, page, len(page), behind=(ctypes.c_uint8(),)), room
+
+
+class Removal(NamedTuple):
+    """What goes of a page: an element, or an attribute of one that stays."""
+
+    tag: str
+    """The name of the element."""
+    key: str | None
+    """The key of the attribute; None where the element itself goes."""
+    why: str
+    """Why it goes."""
+    sourceline: int
+    """The line of the page, from 1, where the start tag of the element stands."""
+    sourcepos: int
+    """How many characters stand before it there."""
+
+
 def sanitize(html: str, policy: Policy | Lists = Policy.BLOG) -> str:
     """What a policy keeps of a page, so that a browser builds just that: no scripts, no handlers of events, no styles, and links where
     the policy lets them lead. What people type is read as browsers read it, so `I <3 you` stays a text. The answer is to stand in an
@@ -119,3 +139,36 @@ def sanitize(html: str, policy: Policy | Lists = Policy.BLOG) -> str:
     if status != DONE:
         raise page_error_of(status, page)
     return room.text()
+
+
+def removed(html: str, policy: Policy | Lists = Policy.BLOG) -> list[Removal]:
+    """What goes of a page by a policy, in the order of the page, so that its author can be told: each element that goes, but those in one
+    that goes whole, and of each that stays the attributes that go. Values that change aren't told, nor is an element that nobody wrote, as
+    a `tbody` that browsers put in.
+
+    >>> for it in removed("<p onclick=f()>x<script>y</script>"):
+    ...     print(f"{it.sourceline}:{it.sourcepos}", it.tag, it.key, it.why)
+    1:0 p onclick the key isn't listed
+    1:16 script None what is in it isn't shown as markup
+    """
+    page = utf8(html, "a page")
+    lists = policy if isinstance(policy, Lists) else Policy(policy).lists()
+    status, room = lists._removed(page)
+    if status != DONE:
+        raise page_error_of(status, page)
+    found = room.removals()
+    places = _places(page.removeprefix(b"\xef\xbb\xbf"), (start for start, *_ in found))
+    return [Removal(tag, key or None, WHYS.get(why, f"cause {why}"), *places[start]) for start, why, tag, key in found]
+
+
+def _places(text: bytes, starts: Iterable[int]) -> dict[int, tuple[int, int]]:
+    """Of bytes of a text the line, from 1, and how many characters stand before each there, in one walk over the text."""
+    places, at, line, column = {}, 0, 1, 0
+    for start in sorted(set(starts)):
+        lines = text[at:start].split(b"\n")
+        if len(lines) > 1:
+            line, column = line + len(lines) - 1, 0
+        column += characters(lines[-1], len(lines[-1]))
+        at = start
+        places[start] = (line, column)
+    return places

@@ -76,6 +76,15 @@ unsafe extern "C" {
         needed: *mut usize,
         cause: *mut u8,
     ) -> u8;
+    pub fn tl_removed_html(
+        lists: *const Lists,
+        page: *const u8,
+        page_len: usize,
+        out: *mut u8,
+        room: usize,
+        needed: *mut usize,
+        cause: *mut u8,
+    ) -> u8;
     pub fn tl_list_options(
         lists: *const Lists,
         out: *mut u8,
@@ -444,6 +453,14 @@ pub fn push<T>(items: &mut Vec<T>, item: T) -> Result<(), u8> {
 pub fn number_at(bytes: &[u8], at: usize) -> usize {
     let number = bytes[at..at + 8].iter().rev();
     number.fold(0, |number, byte| number << 8 | usize::from(*byte))
+}
+
+/// The line of a byte of a page, from 1, and how many bytes stand before it there.
+pub fn line_of(page: &str, place: usize) -> (usize, usize) {
+    let before = &page.as_bytes()[..place.min(page.len())];
+    let line = before.iter().filter(|it| **it == b'\n').count();
+    let column = before.iter().rev().take_while(|it| **it != b'\n').count();
+    (line + 1, column)
 }
 
 /// The text that a call answers, for which this room is lent first.

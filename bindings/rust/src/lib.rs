@@ -30,6 +30,7 @@ mod link;
 mod node;
 mod patch;
 mod policy;
+mod removal;
 mod selector;
 mod table;
 mod tree;
@@ -41,6 +42,7 @@ pub use link::{Link, join_url};
 pub use node::{Attrs, Children, Kind, Namespace, Node, Texts};
 pub use patch::{Content, Edit, edit, set_attribute, unset_attribute};
 pub use policy::{Lists, Policy, Reason, sanitize_by};
+pub use removal::{Removal, Why};
 pub use selector::{Selector, ToSelector, css_escape};
 
 /// What the policy for the text of a blog keeps of a page, so that a browser builds just that: no scripts, no handlers of events, no

@@ -243,10 +243,7 @@ impl<'d> Node<'d> {
     /// # Ok::<(), tlhtml::Error>(())
     /// ```
     pub fn line_of(self, page: &str) -> Option<(usize, usize)> {
-        let before = &page.as_bytes()[..self.source()?.start.min(page.len())];
-        let line = before.iter().filter(|it| **it == b'\n').count();
-        let column = before.iter().rev().take_while(|it| **it != b'\n').count();
-        Some((line + 1, column))
+        Some(calls::line_of(page, self.source()?.start))
     }
 
     /// The node that it stands in.

@@ -1,6 +1,7 @@
 //! Policies, and lists of one's own.
 use crate::Error;
 use crate::calls;
+use crate::removal::{Removal, removals_in};
 use std::fmt;
 
 /// What is kept of a page.
@@ -140,10 +141,30 @@ impl<'w> Lists<'w> {
             let (at, len) = (page.as_ptr(), page.len());
             calls::tl_sanitize_html_with(&lists, at, len, out, room, needed, &mut cause)
         });
-        safe.map_err(|status| match cause {
-            0 => calls::page_error_of(status, page),
-            cause => Error::NoPolicy(Reason::of_number(cause)),
-        })
+        safe.map_err(|status| refusal(status, cause, page))
+    }
+
+    /// What goes of a page by a policy of these lists, in the order of the page, so that its author can be told: each element that goes,
+    /// but those in one that goes whole, and of each that stays the attributes that go. Values that change aren't told, nor is an element
+    /// that nobody wrote, as a `tbody` that browsers put in.
+    ///
+    /// ```
+    /// use tlhtml::Policy;
+    /// let page = "<p onclick=f()>x\n <script>y</script>";
+    /// let removed = Policy::Blog.lists().removed(page)?;
+    /// assert_eq!(removed[0].key.as_deref(), Some("onclick"));
+    /// assert_eq!((removed[1].name.as_str(), removed[1].line_of(page)), ("script", (2, 1)));
+    /// assert_eq!(removed[1].why.to_string(), "what is in it isn't shown as markup");
+    /// # Ok::<(), tlhtml::Error>(())
+    /// ```
+    pub fn removed(&self, page: &str) -> Result<Vec<Removal>, Error> {
+        let (lists, mut cause) = (self.lent(), 0);
+        let told: Result<Vec<u8>, u8> = calls::items(64, |out, room, needed| unsafe {
+            let (at, len) = (page.as_ptr(), page.len());
+            calls::tl_removed_html(&lists, at, len, out, room, needed, &mut cause)
+        });
+        let told = told.map_err(|status| refusal(status, cause, page))?;
+        removals_in(page, &told).map_err(calls::error_of)
     }
 
     /// The options of `tl sanitize` that say these lists, one on each line, so that they can be shown; also those of a policy that is there.
@@ -194,6 +215,14 @@ impl<'w> Lists<'w> {
             nofollow_links: self.nofollow_links,
             policy: self.policy as u8,
         }
+    }
+}
+
+// Why there is nothing of a page: its lists are no policy, for this cause, or what the status says.
+fn refusal(status: u8, cause: u8, page: &str) -> Error {
+    match cause {
+        0 => calls::page_error_of(status, page),
+        cause => Error::NoPolicy(Reason::of_number(cause)),
     }
 }
 

@@ -568,6 +568,67 @@ fn safe_pages() {
 }
 
 #[test]
+fn what_goes() {
+    let page = "\u{feff}<P onclick=f()>é\n<script>y</script><table><td>z<a href=javascript:f()>";
+    let told: Vec<_> = Policy::Blog
+        .lists()
+        .removed(page)
+        .unwrap()
+        .into_iter()
+        .map(|it| {
+            let place = it.line_of(page);
+            (
+                page[it.source].to_string(),
+                it.name,
+                it.key,
+                it.why.to_string(),
+                place,
+            )
+        })
+        .collect();
+    let of = |tag: &str, name: &str, key: Option<&str>, why: &str, place| {
+        (
+            tag.to_string(),
+            name.to_string(),
+            key.map(str::to_string),
+            why.to_string(),
+            place,
+        )
+    };
+    let unlisted = "the tag isn't listed";
+    assert_eq!(
+        told,
+        [
+            of(
+                "<P onclick=f()>",
+                "p",
+                Some("onclick"),
+                "the key isn't listed",
+                (1, 3)
+            ),
+            of(
+                "<script>",
+                "script",
+                None,
+                "what is in it isn't shown as markup",
+                (2, 0)
+            ),
+            of("<table>", "table", None, unlisted, (2, 18)),
+            of("<td>", "td", None, unlisted, (2, 25)),
+            of(
+                "<a href=javascript:f()>",
+                "a",
+                Some("href"),
+                "the value may not stand here",
+                (2, 30)
+            ),
+        ]
+    );
+    let lists = Policy::Blog.lists().tags("script");
+    assert_eq!(lists.removed(page), Err(Error::NoPolicy(Reason::OpaqueTag)));
+}
+
+#[test]
 fn lists_of_ones_own() {
     let page = "<P CLASS=own-a>x<A HREF=b.png>y</A><H1>z</H1><b>c</b>";
     let lists = Policy::Comments.lists();

@@ -7,6 +7,7 @@ pub mod Readings
 pub mod Room
 pub mod Rows
 pub mod SafePages
+pub mod Removals
 pub mod Selectors
 mod SelectorValues
 mod Texts

@@ -6,6 +6,7 @@ pub mod EncodedPages
 pub mod LentLists
 pub mod NodeChanges
 pub mod NodeEdits
+pub mod Removals
 pub mod Nodes
 pub mod Owned
 pub mod Patches

@@ -36,5 +36,6 @@ mod policy;
 mod position;
 mod raw_box;
 mod reading;
+mod removals;
 mod text;
 mod whole;

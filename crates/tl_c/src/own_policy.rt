@@ -56,8 +56,8 @@ fn said_text<'c>(list: &LentList<'c>) -> Result<Option<&'c str>, Failure>
     Ok(Some(text_of(list.text)?))
 }
 
-// The texts of lists, and the lists of their policy.
-fn texts_of<'c>(lists: &LentLists<'c>) -> Result<ListTexts<'c>, Failure>
+/// The texts of lists, and the lists of their policy.
+pub(crate) fn texts_of<'c>(lists: &LentLists<'c>) -> Result<ListTexts<'c>, Failure>
     ensures gives { Gives lists_in_texts (lent_lists lists.now) result }
     ensures failure { IfErr result (λ failure. failure ≡ NotUnderstood) }
 {
@@ -83,8 +83,11 @@ fn texts_of<'c>(lists: &LentLists<'c>) -> Result<ListTexts<'c>, Failure>
     }
 }
 
-// The policy of lists. Where they are none it says the number of why.
-fn lawful_policy<'w>(words: &'w WordLists<'_>, cause: &mut u8) -> Result<Policy<'w>, Failure>
+/// The policy of lists. Where they are none it says the number of why.
+pub(crate) fn lawful_policy<'w>(
+    words: &'w WordLists<'_>,
+    cause: &mut u8,
+) -> Result<Policy<'w>, Failure>
     ensures lists { IfOk result (λ policy. lists_of policy ≡ lists_in words.now) }
     ensures lawful { are_lawful (lists_in words.now) ≡ is_ok result }
     ensures refused { IfErr result (λ failure. failure ≡ Refused) }

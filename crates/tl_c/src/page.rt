@@ -11,8 +11,8 @@ use tl_page::{Failure, text};
 use tl_tree::ReadError;
 use tl_tree_safe::{Policy, sanitize_fragment, without_mark};
 
-// Why a text is not read.
-fn failure_of(error: ReadError) -> Failure
+/// Why a text is not read.
+pub(crate) fn failure_of(error: ReadError) -> Failure
     ensures { result ≡ failure_of error }
 {
     match error {

@@ -9,6 +9,7 @@ ghost use Rattle.tl_c.specs.LentLists.{kept_with, lent_lists, lines_in, number_o
 ghost use Rattle.tl_c.specs.Patches.{IsPatchRefused, PutsPatched, change_of_number};
 ghost use Rattle.tl_c.specs.Policies.{kept_by, lists_of_number};
 ghost use Rattle.tl_c.specs.Puts.{Puts};
+ghost use Rattle.tl_c.specs.Removals.{AreRemovalsBy, PutsSome};
 ghost use Rattle.tl_c.specs.SafePages.{IsSafe, kept_page};
 ghost use Rattle.tl_html_spec.specs.HtmlTokenizer.{without_mark};
 
@@ -19,6 +20,7 @@ use crate::own_policy::{lines_with, safe_page_with, word_refused};
 use crate::page::safe_page;
 use crate::patch::patch;
 use crate::policy::safe_page_by;
+use crate::removals::removals_with;
 use std::alloc::Global;
 use tl_page::VERSION;
 use tl_tree_safe::Policy;
@@ -97,6 +99,36 @@ pub extern "C" fn tl_sanitize_html_with(
     ensures long { u32.MAX < length page.now → result ≡ 2 }
 {
     copy_result(safe_page_with(alloc, lists, page, cause), out, needed)
+}
+
+/// Writes what goes of a page by a policy of lists that are lent, in the order of the page: of each
+/// element that goes, and of each attribute of one that stays, where its start tag begins and ends,
+/// the number of why in `tl.h`, how many bytes its name and its key have, in 8 bytes each with the
+/// lowest first, and both. Bytes are counted behind a byte order mark. Lists that are no policy are
+/// refused: `cause` is the number of why in `tl.h`, and else 0.
+#[unsafe(no_mangle)]
+pub extern "C" fn tl_removed_html(
+    alloc: Global,
+    lists: &LentLists<'_>,
+    page: &[u8],
+    out: &mut [u8],
+    needed: &mut usize,
+    cause: &mut u8,
+) -> u8
+    ensures put { let lent = lent_lists lists.now in
+        PutsSome (AreRemovalsBy lent (without_mark page.now)) (kept_with lists.now page.now)
+        out.old out.new needed.new result }
+
+    // Why the lists are no policy.
+    ensures told { result ≡ 1
+        → cause.new ≡ number_of_refusal (refusal_in (lent_lists lists.now)) }
+    ensures lawful { result ≢ 1 → cause.new ≡ 0 }
+
+    // No want of memory hides that a page is no text, or too long.
+    ensures no_text { ¬ (IsUtf8 page.now) → result ≡ 2 }
+    ensures long { u32.MAX < length page.now → result ≡ 2 }
+{
+    copy_result(removals_with(alloc, lists, page, cause), out, needed)
 }
 
 /// Writes the options of `tl sanitize` that say lists that are lent, one on each line, whether they

@@ -93,6 +93,8 @@ pub enum Action<'w> {
     Patch(Patching<'w>),
     /// Safe pages, by the lists of these texts.
     Safe(ListTexts<'w>),
+    /// The same, and what goes is told.
+    Removed(ListTexts<'w>),
     /// The lists of these texts, and no page.
     Policy(ListTexts<'w>),
 }
@@ -435,6 +437,9 @@ fn action_of<'w>(
             return Ok(Action::Patch(patching(alloc, edit, matches, files)?));
         }
         Verb::Sanitize if matches.get_flag("policy") => return Ok(Action::Policy(lists(matches))),
+        Verb::Sanitize if matches.get_flag("removed") => {
+            return Ok(Action::Removed(lists(matches)));
+        }
         Verb::Sanitize => return Ok(Action::Safe(lists(matches))),
     };
     Ok(Action::Task(Task::Ask(question)))

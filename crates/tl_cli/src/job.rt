@@ -1,9 +1,10 @@
 //! What is done with each page.
 use crate::args::Pages;
 use crate::selected::Selected;
-use crate::task::{Task, Unmade, execute};
+use crate::task::{Made, Task, Unmade, execute, told_page};
 use std::alloc::Global;
 use tl_answers::{Key, Output};
+use tl_tree_safe::Policy;
 
 /// What is done with each page.
 #[derive(Clone, Copy)]
@@ -12,13 +13,23 @@ pub enum Job<'j, 'w> {
     Task(&'j Task<'w>),
     /// What is selected, where these are its keys.
     Select(&'j Selected<'w>, &'j [Key<'j>]),
+    /// It is made safe by a policy, and what goes is told.
+    Removed(&'j Policy<'w>),
+}
+
+// What is made of a page, where nothing is told beside it.
+fn untold(alloc: Global, output: Result<Output, Unmade>) -> Result<Made, Unmade> {
+    Ok(Made {
+        output: output?,
+        told: Vec::new(alloc),
+    })
 }
 
 impl Job<'_, '_> {
     /// Whether what is made says itself which file it is of, where files are named.
     pub fn says_names(&self) -> bool {
         match self {
-            Job::Task(_) => false,
+            Job::Task(_) | Job::Removed(_) => false,
             Job::Select(selected, _) => selected.wanted.is_json(),
         }
     }
@@ -30,14 +41,15 @@ impl Job<'_, '_> {
         pages: &Pages<'_>,
         file: &str,
         text: &[u8],
-    ) -> Result<Output, Unmade> {
+    ) -> Result<Made, Unmade> {
         match self {
-            Job::Task(task) => execute(alloc, task, pages.end(), text),
+            Job::Task(task) => untold(alloc, execute(alloc, task, pages.end(), text)),
             Job::Select(selected, keys) => {
                 let name = if pages.are_named() { Some(file) } else { None };
                 let task = Task::Ask(selected.question(keys, name));
-                execute(alloc, &task, pages.end(), text)
+                untold(alloc, execute(alloc, &task, pages.end(), text))
             }
+            Job::Removed(policy) => told_page(alloc, policy, file, text),
         }
     }
 }

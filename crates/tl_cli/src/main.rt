@@ -92,6 +92,7 @@ fn act(rt: &HostRuntime, args: &Args<'_>) -> Result<u8, Failure> {
         Action::Text(texts) => process(rt, &Task::Ask(texts.question()), &args.pages),
         Action::Patch(patching) => patch_pages(rt, patching, &args.pages),
         Action::Safe(texts) => sanitize(rt, texts, &args.pages),
+        Action::Removed(texts) => sanitize_telling(rt, texts, &args.pages),
         Action::Policy(texts) => write_policy(rt, texts),
     }
 }
@@ -274,6 +275,18 @@ fn sanitize(rt: &HostRuntime, texts: &ListTexts<'_>, pages: &Pages<'_>) -> Resul
     let lists = lists_of(rt, texts)?;
     let policy = policy_of(rt, lists.lists())?;
     process(rt, &Task::Sanitize(policy), pages)
+}
+
+// Makes pages safe by the lists of these texts, and tells what goes of them.
+fn sanitize_telling(
+    rt: &HostRuntime,
+    texts: &ListTexts<'_>,
+    pages: &Pages<'_>,
+) -> Result<u8, Failure> {
+    let lists = lists_of(rt, texts)?;
+    let policy = policy_of(rt, lists.lists())?;
+    let job = Job::Removed(&policy);
+    process_pages(rt, &job, pages)
 }
 
 // Writes the lists of these texts as options that say them.

@@ -9,7 +9,7 @@ use crate::args::{Pages, Telling, Writing};
 use crate::filename::with_prefix;
 use crate::job::Job;
 use crate::reports::{Answer, Report, Tally, status_of};
-use crate::task::Unmade;
+use crate::task::{Made, Unmade};
 use crate::unread::{report_media, report_unread};
 use std::alloc::{AllocError, Global};
 use std::fs::File;
@@ -236,6 +236,11 @@ pub fn unmade(rt: &HostRuntime, file: &str, text: &[u8], why: Unmade) -> Result<
     }
 }
 
+// Says on standard error what is told beside a page.
+fn tell(rt: &HostRuntime, told: &[u8]) {
+    let _ = rt.stderr().write_all(told);
+}
+
 // What comes of the text of a page.
 fn process_text(
     rt: &HostRuntime,
@@ -244,16 +249,18 @@ fn process_text(
     file: &str,
     text: &[u8],
 ) -> Result<Answer, Failure> {
-    let output = match job.execute(rt.alloc(), pages, file, text) {
-        Ok(output) => output,
+    let made = match job.execute(rt.alloc(), pages, file, text) {
+        Ok(made) => made,
         Err(why) => {
             pages.terminal.clear(rt);
             return unmade(rt, file, text, why);
         }
     };
+    let Made { output, told } = made;
     let is_found = output.is_found;
     let written = page_output(rt, job, pages, file, output)?;
     pages.terminal.clear(rt);
+    tell(rt, &told);
     match write(rt, &written) {
         Ok(()) if is_found => Ok(Answer::Found),
         Ok(()) => Ok(Answer::Nothing),

@@ -6,13 +6,15 @@ ghost use Rattle.tl_answers.specs.Pages.{IsAnswered, searched};
 ghost use Rattle.tl_cli.specs.Task.{AreSelectedIn, IsMade, IsMadeSafe, IsUnanswered, IsUnmade, IsUnsafe, unanswered_of, unmade_of};
 ghost use Rattle.tl_cli.specs.declared.task.Unmade.TheVariants.{Failed};
 ghost use Rattle.tl_page.specs.declared.failure.Failure.TheVariants.{NotUnderstood};
+ghost use Rattle.tl_html_spec.specs.HtmlTokenizer.{without_mark};
 ghost use Rattle.tl_tree_safe.specs.OfPolicy.{lists_of};
+ghost use Rattle.tl_tree_safe.specs.RemovedLines.{TellRemoved};
 
 use std::alloc::Global;
 use tl_answers::{AnswerError, Output, Question, answer_of_page};
 use tl_page::{Failure, PageError, text};
 use tl_tree::ReadError;
-use tl_tree_safe::{Policy, sanitize_fragment, without_mark};
+use tl_tree_safe::{Policy, sanitize_fragment, sanitize_fragment_telling, without_mark};
 
 /// What is made of each page.
 #[derive(Drop)]
@@ -102,6 +104,36 @@ fn safe_page(alloc: Global, policy: &Policy<'_>, page: &[u8]) -> Result<Output, 
     let text = text(page)?;
     let safe = sanitize_fragment(alloc, policy, without_mark(text.as_bytes()))?;
     Ok(Output::whole(safe))
+}
+
+/// What is made of a page, and lines that are told beside it.
+#[derive(Drop)]
+pub struct Made {
+    pub output: Output,
+    pub told: Vec<u8>,
+}
+
+/// A page made safe, and lines that tell what goes of it, with the name of its file.
+pub fn told_page(
+    alloc: Global,
+    policy: &Policy<'_>,
+    file: &str,
+    page: &[u8],
+) -> Result<Made, Unmade>
+    ensures made { IfOk result (λ made.
+        IsMadeSafe (lists_of policy.now) page.now (finding_of made.output)) }
+    ensures removed { IfOk result (λ made.
+        TellRemoved (lists_of policy.now) file.now (without_mark page.now) made.told.items) }
+    ensures told { IfErr result (IsUnsafe page.now) }
+    ensures no_text { ¬ (IsUtf8 page.now) → result ≡ Err (Failed NotUnderstood) }
+    ensures long { u32.MAX < length page.now → result ≡ Err (Failed NotUnderstood) }
+{
+    let markup = text(page)?;
+    let told = sanitize_fragment_telling(alloc, policy, without_mark(markup.as_bytes()), file)?;
+    Ok(Made {
+        output: Output::whole(told.page),
+        told: told.lines,
+    })
 }
 
 /// What a task makes of a page, where what is listed ends with `end`: nothing of one whose tree, or

@@ -508,8 +508,16 @@ pub static SELECTION: [Flag; 2] = [FIRST, MAX_COUNT];
 // How texts are written, and which.
 pub static TEXT_FLAGS: [Flag; 3] = [WHITESPACE, INSIDE, COMMENTS];
 
+const REMOVED: Flag = Flag {
+    name: "removed",
+    short: None,
+    value: None,
+    help: "Report on standard error what is removed, and why",
+    excludes: &["policy"],
+};
+
 // What a policy lets stand beside its lists.
-pub static POLICIES: [Flag; 3] = [RELATIVE_LINKS, NOFOLLOW_LINKS, POLICY];
+pub static POLICIES: [Flag; 4] = [RELATIVE_LINKS, NOFOLLOW_LINKS, POLICY, REMOVED];
 
 // How bytes are read.
 pub static DECODING: [Flag; 2] = [ENCODING, STRICT];

@@ -24,3 +24,4 @@ pub mod Commas
 pub mod Marks
 pub mod Lawful
 pub mod InDiv
+pub mod RemovedPlaces

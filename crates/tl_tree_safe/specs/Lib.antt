@@ -18,3 +18,5 @@ pub mod Examples
 pub mod Inner
 pub mod InDiv
 pub mod Removed
+pub mod Causes
+pub mod RemovedLines

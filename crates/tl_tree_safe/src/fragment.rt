@@ -1,7 +1,7 @@
 //! Texts made safe for a browser.
 ghost use Rattle.std.specs.Prelude.{Bool, IfErr, IfOk, List, None, false, true, ℕ, ◌++◌, ◌≡◌};
 ghost use Rattle.tl_dom_spec.specs.HtmlForest.{HtmlForest};
-ghost use Rattle.tl_dom_spec.specs.HtmlTree.{html_fragment};
+ghost use Rattle.tl_dom_spec.specs.HtmlTree.{context_of, html_fragment, standard};
 ghost use Rattle.tl_dom_spec.specs.Partial.{without_numbers};
 ghost use Rattle.tl_html_print.specs.Again.{built_in_div};
 ghost use Rattle.tl_html_print.specs.ReadAgain.{tokens_of_trees};
@@ -14,10 +14,14 @@ ghost use Rattle.tl_tree_safe.specs.InDiv.{IsUnreadInDiv, div, is_in_proportion_
 ghost use Rattle.tl_tree_safe.specs.Joined.{texts_joined};
 ghost use Rattle.tl_tree_safe.specs.KeptFitted.{kept_fitted};
 ghost use Rattle.tl_tree_safe.specs.Listed.{are_listed};
+ghost use Rattle.tl_tree.specs.Sources.{AreSourced, fragment_begin, source_at};
 ghost use Rattle.tl_tree_safe.specs.OfPolicy.{lists_of};
+ghost use Rattle.tl_tree_safe.specs.Removed.{removed};
+ghost use Rattle.tl_tree_safe.specs.RemovedLines.{TellRemoved, removed_lines};
 
 use crate::policy::Policy;
-use crate::sanitizer::sanitize;
+use crate::removed_lines::lines_of_removals;
+use crate::sanitizer::{sanitize, sanitize_telling};
 use std::alloc::{AllocError, Global};
 use tl_tree::{Context, Flags, Namespace, ReadError, Tree};
 
@@ -32,9 +36,12 @@ pub fn without_mark(page: &[u8]) -> &[u8]
     }
 }
 
-// Reads a text as what a `div` holds.
-fn read_in_div(alloc: Global, text: &[u8]) -> Result<Tree<'_>, ReadError>
+/// Reads a text as what a `div` holds, of which `sanitize` and `sanitize_telling` print what a
+/// policy keeps. It is refused as `sanitize_fragment` refuses it.
+pub fn read_in_div(alloc: Global, text: &[u8]) -> Result<Tree<'_>, ReadError>
     ensures tree { IfOk result (λ tree. rows_in tree ≡ rows_of (html_fragment div text.now)) }
+    ensures sources { IfOk result (λ tree.
+        AreSourced text.now (fragment_begin standard (context_of div)) tree) }
     ensures in_proportion { IfOk result (λ tree. is_in_proportion_in_div text.now ≡ true) }
     ensures told { IfErr result (IsUnreadInDiv text.now) }
 {
@@ -96,4 +103,58 @@ pub fn sanitize_fragment(
         return Err(ReadError::OutOfMemory);
     };
     Ok(page)
+}
+
+/// What is printed of a text, and lines that tell what went of it.
+#[derive(Drop)]
+pub struct ToldPage {
+    pub page: Vec<u8>,
+    pub lines: Vec<u8>,
+}
+
+// Prints what a policy keeps of the tree of a text, and tells what goes.
+fn print_telling(
+    alloc: Global,
+    policy: &Policy<'_>,
+    tree: &Tree<'_>,
+    text: &[u8],
+    file: &str,
+) -> Result<ToldPage, AllocError>
+    ensures print { (trees : HtmlForest) → rows_in tree.now ≡ rows_of trees →
+        IfOk result (λ told. told.page.items
+        ≡ serialized false None (kept_fitted (lists_of policy.now) trees)) }
+    ensures lines { (trees : HtmlForest) → rows_in tree.now ≡ rows_of trees →
+        IfOk result (λ told. told.lines.items ≡ removed_lines file.now text.now
+        (source_at tree.now) (rows_in tree.now) (removed (lists_of policy.now) trees)) }
+{
+    let mut page = Vec::new(alloc);
+    let mut removals = Vec::new(alloc);
+    sanitize_telling(alloc, policy, tree, &mut page, &mut removals)?;
+    let lines = lines_of_removals(alloc, tree, text, file, &removals)?;
+    Ok(ToldPage { page, lines })
+}
+
+/// Prints what `sanitize_fragment` prints of a text, and tells what goes of what was written in it:
+/// a line for each element and attribute, with the name of a file, and the line and the column of
+/// the element's start tag, as `FILE:LINE:COLUMN: <NAME KEY>: WHY`.
+pub fn sanitize_fragment_telling(
+    alloc: Global,
+    policy: &Policy<'_>,
+    text: &[u8],
+    file: &str,
+) -> Result<ToldPage, ReadError>
+    ensures print { IfOk result (λ told.
+        told.page.items ≡ safe_print (lists_of policy.now) text.now) }
+    ensures lines { IfOk result (λ told.
+        TellRemoved (lists_of policy.now) file.now text.now told.lines.items) }
+
+    // When it is refused.
+    ensures in_proportion { IfOk result (λ told. is_in_proportion_in_div text.now ≡ true) }
+    ensures told { IfErr result (IsUnreadInDiv text.now) }
+{
+    let tree = read_in_div(alloc, text)?;
+    match print_telling(alloc, policy, &tree, text, file) {
+        Ok(told) => Ok(told),
+        Err(AllocError) => Err(ReadError::OutOfMemory),
+    }
 }

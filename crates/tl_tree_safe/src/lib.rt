@@ -22,6 +22,7 @@ mod reasons;
 mod refusal;
 mod refused;
 mod removal;
+mod removed_lines;
 mod removed_rows;
 mod sanitizer;
 mod start_tag;
@@ -36,7 +37,9 @@ mod writer;
 
 pub use attributes::write_attributes;
 pub use clean::write_cleaned;
-pub use fragment::{sanitize_fragment, without_mark};
+pub use fragment::{
+    ToldPage, read_in_div, sanitize_fragment, sanitize_fragment_telling, without_mark,
+};
 pub use lists::Lists;
 pub use policy::Policy;
 pub use refusal::{PolicyError, Reason};

@@ -1,4 +1,7 @@
 //! What goes of a tree, and why.
+ghost use Rattle.std.specs.Prelude.{◌≡◌};
+ghost use Rattle.tl_tree_safe.specs.Causes.{cause_words};
+
 use std::fmt;
 
 /// Why an element or an attribute goes.
@@ -18,16 +21,25 @@ pub enum Cause {
     UnlistedValue,
 }
 
-impl fmt::Display for Cause {
-    fn fmt<W: fmt::Write>(&self, f: &mut fmt::Formatter<W>) -> fmt::Result {
-        f.write_str(match self {
+impl Cause {
+    /// It in words.
+    pub fn words(self) -> &'static str
+        ensures { result.now ≡ cause_words self }
+    {
+        match self {
             Cause::UnlistedTag => "the tag isn't listed",
             Cause::OpaqueTag => "what is in it isn't shown as markup",
             Cause::ForeignTag => "it is no element of HTML",
             Cause::MisplacedTag => "the tag may not stand here",
             Cause::UnlistedKey => "the key isn't listed",
             Cause::UnlistedValue => "the value may not stand here",
-        })
+        }
+    }
+}
+
+impl fmt::Display for Cause {
+    fn fmt<W: fmt::Write>(&self, f: &mut fmt::Formatter<W>) -> fmt::Result {
+        f.write_str(self.words())
     }
 }
 
