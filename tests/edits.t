@@ -218,7 +218,7 @@ What is no regular file stays as it is.
   $ (printf '<p>' >pipe & tl set -i p k v pipe 2>said; echo $?; wait)
   4
   $ cat said
-  tl: pipe: no regular file
+  tl: pipe: not a regular file
   $ rm pipe said second second.old other other.old
 
 A failed write leaves the old page, and nothing beside it.
@@ -618,7 +618,7 @@ What is refused.
   $ printf '<meta charset=latin1><p>è' | tl set p k é
   <meta charset=latin1><p k="\xe9">è (esc) (no-eol)
   $ printf '<meta charset=iso-2022-jp><p>a' | tl set p k e
-  tl: -: ISO-2022-JP is not changed; iconv -f ISO-2022-JP -t UTF-8 makes UTF-8 of it (err)
+  tl: -: pages in ISO-2022-JP can't be edited; convert them: iconv -f ISO-2022-JP -t UTF-8 (err)
   [2]
   $ printf '<meta charset=utf-8><p>a' | tl set p k é
   <meta charset=utf-8><p k="é">a (no-eol)
@@ -636,13 +636,13 @@ A browser may read a `style` or `script` behind an `svg` and its like as markup:
 
   $ printf '<svg>\n<style>a</style></svg><style>b</style>' >drawing
   $ tl fill 'svg style' 'a<b' drawing
-  tl: drawing: a browser may read the text as markup in the element at line 2, as svg begins before it, at line 1: put no '<' and '&' there, or move it before that (err)
+  tl: drawing: a browser may read the text as markup in the element at line 2, after svg at line 1: leave out '<' and '&', or move the element before it (err)
   [2]
   $ tl fill -i style 'a&b' drawing
-  tl: drawing: a browser may read the text as markup in the element at line 2, as svg begins before it, at line 1: put no '<' and '&' there, or move it before that (err)
+  tl: drawing: a browser may read the text as markup in the element at line 2, after svg at line 1: leave out '<' and '&', or move the element before it (err)
   [2]
   $ tl append 'svg ~ style' 'a<b' drawing
-  tl: drawing: a browser may read the text as markup in the element at line 2, as svg begins before it, at line 1: put no '<' and '&' there, or move it before that (err)
+  tl: drawing: a browser may read the text as markup in the element at line 2, after svg at line 1: leave out '<' and '&', or move the element before it (err)
   [2]
   $ tl fill 'svg style' 'a>b' drawing
   <svg>
@@ -654,10 +654,10 @@ A browser may read a `style` or `script` behind an `svg` and its like as markup:
   <svg>
   a&lt;b<style>a</style></svg><style>b</style> (no-eol)
   $ printf '<MATH>\n\n<SCRIPT>a</SCRIPT></MATH>' | tl prepend 'math script' '&'
-  tl: -: a browser may read the text as markup in the element at line 3, as math begins before it, at line 1: put no '<' and '&' there, or move it before that (err)
+  tl: -: a browser may read the text as markup in the element at line 3, after math at line 1: leave out '<' and '&', or move the element before it (err)
   [2]
   $ printf '<svg><p><xmp>a</xmp>' | tl append xmp '<'
-  tl: -: a browser may read the text as markup in the element at line 1, as svg begins before it, at line 1: put no '<' and '&' there, or move it before that (err)
+  tl: -: a browser may read the text as markup in the element at line 1, after svg at line 1: leave out '<' and '&', or move the element before it (err)
   [2]
   $ printf '<svg><p><xmp>a' | tl append xmp '<'
   tl: -: the element at byte 8 can't be changed so (err)
@@ -669,7 +669,7 @@ A browser may read a `style` or `script` behind an `svg` and its like as markup:
   $ printf '</svg><style>a</style>' | tl fill style '<'
   </svg><style><</style> (no-eol)
   $ printf '<body><noscript><style></style></noscript>' | tl fill style 'a</noscript><img src=x onerror=alert(1)>'
-  tl: -: a browser may read the text as markup in the element at line 1, as noscript begins before it, at line 1: put no '<' and '&' there, or move it before that (err)
+  tl: -: a browser may read the text as markup in the element at line 1, after noscript at line 1: leave out '<' and '&', or move the element before it (err)
   [2]
   $ for front in '<template></template>' '<select>' '<svg><b><math></svg>' '<svg></p><math></svg>' '<noscript></noscript>'; do
   >   printf '%s<style>a</style>' "$front" | tl fill style '<' 2>&1 | grep -o 'as [a-z]* begins'
@@ -684,10 +684,10 @@ Nor does an element get such a name before a raw text with one of them.
 
   $ printf '<p>\n<div class=d><style>p{content:"<img src=x onerror=f()>"}</style></div>' >styled
   $ tl rename .d svg styled
-  tl: styled: by that name for the element at line 2 a browser may read a style, script or title in it or behind it as markup, as that has a '<' or '&' (err)
+  tl: styled: the element at line 2 can't get that name: a browser may then read a style, script or title with '<' or '&' in it or after it as markup (err)
   [2]
   $ tl rename -i p noscript styled
-  tl: styled: by that name for the element at line 1 a browser may read a style, script or title in it or behind it as markup, as that has a '<' or '&' (err)
+  tl: styled: the element at line 1 can't get that name: a browser may then read a style, script or title with '<' or '&' in it or after it as markup (err)
   [2]
   $ tl rename .d section styled
   <p>
@@ -738,22 +738,22 @@ An element has to be whole: what begins in the bytes that it has by its end tags
 
   $ printf '<svg><p>x</p></svg>y' >across
   $ tl remove svg across
-  tl: across: the element at line 1, column 1 isn't whole, so its tag alone can be changed: what begins at line 1, column 9 is in it by its tags or to browsers, and not by both (err)
+  tl: across: only attributes of the element at line 1, column 1 can be edited: by its tags it has other content than in browsers (see line 1, column 9) (err)
   [2]
   $ tl before svg z across
-  tl: across: the element at line 1, column 1 isn't whole, so its tag alone can be changed: what begins at line 1, column 9 is in it by its tags or to browsers, and not by both (err)
+  tl: across: only attributes of the element at line 1, column 1 can be edited: by its tags it has other content than in browsers (see line 1, column 9) (err)
   [2]
   $ tl set svg k v across
   <svg k="v"><p>x</p></svg>y (no-eol)
   $ tl remove p across
   <svg></svg>y (no-eol)
   $ printf '<div>\n<b>1<p>2</b>3</p></div>' | tl unwrap b
-  tl: -: the element at line 2, column 1 isn't whole, so its tag alone can be changed: what begins at line 2, column 1 is in it by its tags or to browsers, and not by both (err)
+  tl: -: only attributes of the element at line 2, column 1 can be edited: by its tags it has other content than in browsers (see line 2, column 1) (err)
   [2]
   $ printf '<div><b>1<p>2</b>3</p></div>' | tl append div x
   <div><b>1<p>2</b>3</p></b>x</div> (no-eol)
   $ printf '<table><tr><i>1</i><td>2</table>' | tl fill tr x
-  tl: -: the element at line 1, column 8 isn't whole, so its tag alone can be changed: what begins at line 1, column 12 is in it by its tags or to browsers, and not by both (err)
+  tl: -: only attributes of the element at line 1, column 8 can be edited: by its tags it has other content than in browsers (see line 1, column 12) (err)
   [2]
   $ printf '<table><tr><i>1</i><td>2</table>' | tl remove td
   <table><tr><i>1</i></table> (no-eol)

@@ -532,10 +532,10 @@ as the same tree by it. A page with bytes that are wrong isn't changed.
   <meta charset=latin1><b>&#321;</b><p title="&#321;\363d&#378;">caf\
   \351$
   $ tl before --html p '<!--Ł-->' latin.html
-  tl: latin.html: 'Ł' is not in windows-1252, and no reference can stand there (err)
+  tl: latin.html: windows-1252 has no 'Ł', and no character reference can be used there (err)
   [2]
   $ tl before --html p '<script>"Ł"</script>' latin.html
-  tl: latin.html: 'Ł' is not in windows-1252, and no reference can stand there (err)
+  tl: latin.html: windows-1252 has no 'Ł', and no character reference can be used there (err)
   [2]
   $ tl before --html p '<title>Ł</title>' latin.html | LC_ALL=C sed -n l
   <meta charset=latin1><title>&#321;</title><p title="&#321;\363d&#378;\
@@ -565,23 +565,23 @@ as the same tree by it. A page with bytes that are wrong isn't changed.
   $ printf '<meta charset=sjis><p>a' | tl set p k 'テ'
   <meta charset=sjis><p k="&#12486;">a (no-eol)
   $ printf '<meta charset=sjis><p>\203e' | tl set p k v
-  tl: -: Shift_JIS is not changed; iconv -f Shift_JIS -t UTF-8 makes UTF-8 of it (err)
+  tl: -: pages in Shift_JIS can't be edited; convert them: iconv -f Shift_JIS -t UTF-8 (err)
   [2]
   $ printf '<meta charset=gbk><p>\312\324' | tl set --encoding auto p k v
-  tl: -: GBK is not changed; iconv -f GBK -t UTF-8 makes UTF-8 of it (err)
+  tl: -: pages in GBK can't be edited; convert them: iconv -f GBK -t UTF-8 (err)
   [2]
   $ printf '<meta charset=iso-2022-jp><p>a' | tl set p k v
-  tl: -: ISO-2022-JP is not changed; iconv -f ISO-2022-JP -t UTF-8 makes UTF-8 of it (err)
+  tl: -: pages in ISO-2022-JP can't be edited; convert them: iconv -f ISO-2022-JP -t UTF-8 (err)
   [2]
   $ printf '<p>a' | tl set --encoding replacement p k v
-  tl: -: pages in this encoding are read by nothing, and not changed (err)
+  tl: -: pages in this encoding can't be edited (err)
   [2]
   $ printf '<meta charset=latin1><p>café' | tl set p k 'é' | LC_ALL=C sed -n l
   <meta charset=latin1><p k="\351">caf\303\251$
   $ printf '<meta charset=latin1><p>café' | tl set --encoding auto p k 'é'
   <meta charset=latin1><p k="é">café (no-eol)
   $ printf '<meta charset=latin1><p>a' | tl set --encoding auto p k 'é'
-  tl: -: what is put is no ASCII, and the page says another encoding than UTF-8 (err)
+  tl: -: the new text isn't ASCII, and the page declares another encoding than UTF-8 (err)
   [2]
   $ printf '<p>\377' | tl set p k v | LC_ALL=C sed -n l
   <p k="v">\377$

@@ -173,7 +173,7 @@ What can't be done leaves the old page, and nothing beside it: where a backup ca
   page
   $ mkfifo pipe
   $ (timeout 60 sh -c 'printf "<a>" >pipe') & timeout 60 tl set -i a k z pipe
-  tl: pipe: no regular file (err)
+  tl: pipe: not a regular file (err)
   [4]
   $ test -p pipe
   $ ls pipe*

@@ -13,13 +13,13 @@ Of two that say where pages go, of two policies, and of two that say what is wri
   $ tl sanitize --comments --documents one 2>&1 | head -1
   error: the argument '--comments' cannot be used with '--documents'
   $ for flag in '-a a.b' -t -H -n -c; do tl select --tree $flag p one 2>&1 | head -1; done
-  error: the argument '--tree' cannot be used with '--attribute <KEY>'
+  error: the argument '--tree' cannot be used with '--attribute <NAME>'
   error: the argument '--tree' cannot be used with '--text'
   error: the argument '--tree' cannot be used with '--inside'
   error: the argument '--tree' cannot be used with '--number'
   error: the argument '--tree' cannot be used with '--count'
   $ for flag in '-a a.b' -t -H -n -c; do tl select --json $flag p one 2>&1 | head -1; done
-  error: the argument '--json' cannot be used with '--attribute <KEY>'
+  error: the argument '--json' cannot be used with '--attribute <NAME>'
   error: the argument '--json' cannot be used with '--text'
   error: the argument '--json' cannot be used with '--inside'
   error: the argument '--json' cannot be used with '--number'

@@ -208,10 +208,10 @@ A table whose lines are out of proportion to the page is refused, at its start t
   $ python3 -c 'print("<table><tr>" + "<td colspan=1000>" * 40 + "<tr>", end="")' | tl table | wc -c
   80000
   $ python3 -c 'print("<table><tr>" + "<td colspan=1000>" * 40 + "<tr>" * 2, end="")' | tl table
-  tl: -: byte 0: the table has too many values (err)
+  tl: -: the table at byte 0 has too many values (err)
   [2]
   $ printf '<table><tr><td>x</table><p>y</p><table><tr><td colspan=1000>%0100d' 0 | tl table --number 2
-  tl: -: byte 32: the table has too many values (err)
+  tl: -: the table at byte 32 has too many values (err)
   [2]
   $ printf '<table><tr><td>x</table><p>y</p><table><tr><td colspan=1000>%0100d' 0 | tl table
   x
@@ -347,7 +347,7 @@ Values of nodes in columns, of several keys, or of keys and the text.
   1
   2,3
   $ tl select -a href -a class -c a rows
-  error: the argument '--attribute <KEY>' cannot be used with '--count' (err)
+  error: the argument '--attribute <NAME>' cannot be used with '--count' (err)
   ...
   [2]
   $ tl select -q -a href -a class a rows

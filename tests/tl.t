@@ -486,10 +486,9 @@ Nothing was found, or something is refused or not understood.
   $ printf '\377' | tl select --strict p
   tl: -: no UTF-8 at byte 0; --encoding names the encoding (err)
   [2]
-  $ tl
-  error: 'tl' requires a subcommand but one was not provided (err)
-  ...
-  [2]
+  $ tl 2>said; echo $?; head -1 said
+  2
+  Query, edit and sanitize HTML pages, however broken
   $ tl show
   error: unrecognized subcommand 'show' (err)
   ...
@@ -503,7 +502,7 @@ Nothing was found, or something is refused or not understood.
   ...
   [2]
   $ tl select -a
-  error: a value is required for '--attribute <KEY>' but none was supplied (err)
+  error: a value is required for '--attribute <NAME>' but none was supplied (err)
   ...
   [2]
   $ tl select -t
@@ -1046,7 +1045,7 @@ Help names each command and each option, and words the lists.
     tl unwrap -i font *.html                remove <font>, and keep what is inside
     tl replace --html 'br + br' '<hr>' a.html    a rule instead of a second break
     tl fill -i title 'News & more' *.html   set a new title
-    tl prepend --html -i head '<meta charset=utf-8>' *.html    declare the encoding
+    tl prepend --html -i head '<meta charset=utf-8>' *.html   declare UTF-8
     tl append --html -i footer '<hr>' *.html     a rule at the end of each footer
     tl before --html h1 '<p>Draft</p>' a.html    a note before the heading
     tl after 'a[href^=http]' ' (elsewhere)' a.html    mark links to other sites

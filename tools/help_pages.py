@@ -72,18 +72,35 @@ def roff_options(options):
     return made
 
 
+# Where a paragraph of the program's help stands in the manual page, by how it begins.
+SECTIONS = {"Examples:": "EXAMPLES", "Exit status:": "EXIT STATUS", "On a terminal": "ENVIRONMENT"}
+
+
+def sections(notes):
+    """The paragraphs of the program's help by section, those of DESCRIPTION first."""
+    made = {"DESCRIPTION": []} | {it: [] for it in SECTIONS.values()}
+    for part in notes.split("\n\n"):
+        name = next((name for words, name in SECTIONS.items() if part.startswith(words)), "DESCRIPTION")
+        made[name].append(re.sub(r"^(Examples|Exit status):\s*", "", part))
+    return {name: "\n\n".join(parts) for name, parts in made.items() if parts}
+
+
 def manual(program, version):
     """The manual page."""
     made = [f'.\\" {MADE}', f'.TH TL 1 "" "tl {version}" "User Commands"', ".SH NAME"]
     made += [f"tl \\- {program.help.does[0].lower()}{roff(program.help.does[1:])}", ".SH SYNOPSIS"]
     for it in program.commands.values():
         made += [f".B {roff(it.usage)}", ".br"]
-    made += [".SH DESCRIPTION", *roff_block(program.help.notes), ".SH COMMANDS"]
+    notes = sections(program.help.notes)
+    made += [".SH DESCRIPTION", *roff_block(notes.pop("DESCRIPTION")), ".SH COMMANDS"]
     for name, it in program.commands.items():
         made += [f'.SS "{roff(it.usage)}"', f"{roff(it.does)}."]
         for word, says in it.arguments:
             made += [".TP", f"\\fI{roff(word)}\\fR", roff(says)]
         made += [*roff_options(it.options), *roff_block(it.notes)]
+    for name, text in notes.items():
+        made += [f".SH {name}", *roff_block(text)]
+    made += [".SH SEE ALSO", roff("curl(1), iconv(1), jq(1), xmllint(1), https://html.spec.whatwg.org/")]
     return "\n".join(made) + "\n"
 
 

@@ -42,7 +42,7 @@ impl fmt::Display for Crossed<'_> {
         let other = Place { page, at: self.at };
         write!(
             f,
-            "the element at {place} isn't whole, so its tag alone can be changed: what begins at {other} is in it by its tags or to browsers, and not by both"
+            "only attributes of the element at {place} can be edited: by its tags it has other content than in browsers (see {other})"
         )
     }
 }

@@ -152,6 +152,9 @@ fn report_selector(rt: &HostRuntime, error: &SelectorError, text: &str) {
     if caret.is_shown() {
         let _ = eprintln!(rt; "{caret}");
     }
+    if text.starts_with('/') {
+        let _ = eprintln!(rt; "tl: this looks like XPath; developer tools copy a selector too");
+    }
 }
 
 // Says why nothing is made, or what was asked for in its place.

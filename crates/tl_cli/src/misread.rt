@@ -50,7 +50,7 @@ impl fmt::Display for Misread<'_> {
         if self.place == self.cause {
             return write!(
                 f,
-                "by that name for the element at line {line} a browser may read a style, script or title in it or behind it as markup, as that has a '<' or '&'"
+                "the element at line {line} can't get that name: a browser may then read a style, script or title with '<' or '&' in it or after it as markup"
             );
         }
         let page = self.page;
@@ -61,7 +61,7 @@ impl fmt::Display for Misread<'_> {
         let before = line_of(page, self.cause);
         write!(
             f,
-            "a browser may read the text as markup in the element at line {line}, as {name} begins before it, at line {before}: put no '<' and '&' there, or move it before that"
+            "a browser may read the text as markup in the element at line {line}, after {name} at line {before}: leave out '<' and '&', or move the element before it"
         )
     }
 }

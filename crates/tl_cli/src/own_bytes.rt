@@ -40,26 +40,26 @@ impl fmt::Display for Uneditable {
             Uneditable::OutOfMemory => f.write_str("out of memory"),
             Uneditable::Undecoded(error) => write!(f, "{error}"),
             Uneditable::NotChanged(Encoding::Replacement) => {
-                f.write_str("pages in this encoding are read by nothing, and not changed")
+                f.write_str("pages in this encoding can't be edited")
             }
             Uneditable::NotChanged(encoding) => {
                 let name = encoding.name();
                 write!(
                     f,
-                    "{name} is not changed; iconv -f {name} -t UTF-8 makes UTF-8 of it"
+                    "pages in {name} can't be edited; convert them: iconv -f {name} -t UTF-8"
                 )
             }
             Uneditable::Unencoded(encoding, character) => {
                 let name = encoding.name();
                 write!(
                     f,
-                    "{character:?} is not in {name}, and no reference can stand there"
+                    "{name} has no {character:?}, and no character reference can be used there"
                 )
             }
             Uneditable::Misread => f.write_str(
-                "what is put is no ASCII, and the page says another encoding than UTF-8",
+                "the new text isn't ASCII, and the page declares another encoding than UTF-8",
             ),
-            Uneditable::Unread(_) => f.write_str("what is put can't be read in the page"),
+            Uneditable::Unread(_) => f.write_str("the new text would not be read back in the page"),
             Uneditable::Joined => f.write_str(
                 "bytes that are no UTF-8 would be read otherwise; --strict of tl text says where",
             ),

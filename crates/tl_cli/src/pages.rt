@@ -13,7 +13,7 @@ use crate::task::{Made, Unmade};
 use crate::unread::{report_media, report_unread};
 use std::alloc::{AllocError, Global};
 use std::fs::File;
-use std::io::{ErrorKind, Read, Write};
+use std::io::{ErrorKind, IsTerminal, Read, Write};
 use std::{fmt, io};
 use tl_answers::Output;
 use tl_encoding::{
@@ -71,9 +71,17 @@ fn page_in<R: Read + Drop>(alloc: Global, reader: R) -> io::Result<Vec<u8>>
     Ok(page)
 }
 
+// Says that a terminal is read, since nothing else shows that the program waits.
+fn tell_terminal(rt: &HostRuntime) {
+    if rt.stdin().is_terminal() {
+        let _ = eprintln!(rt; "tl: reading from the terminal; Ctrl-D ends the page");
+    }
+}
+
 /// The page in a file, or on standard input.
 pub fn page_of(rt: &HostRuntime, file: &str) -> io::Result<Vec<u8>> {
     if file == "-" {
+        tell_terminal(rt);
         page_in(rt.alloc(), rt.stdin())
     } else {
         File::open(rt, file).and_then(|opened| page_in(rt.alloc(), opened))
@@ -218,8 +226,8 @@ impl fmt::Display for TooLarge {
         match self {
             TooLarge::Tree => f.write_str("its tree is too large"),
             TooLarge::TreeAt(place) => write!(f, "its tree is out of proportion at byte {place}"),
-            TooLarge::TableAt(place) => write!(f, "byte {place}: the table has too many values"),
-            TooLarge::Url => f.write_str("a URL of it is too long"),
+            TooLarge::TableAt(place) => write!(f, "the table at byte {place} has too many values"),
+            TooLarge::Url => f.write_str("a URL in it is too long"),
         }
     }
 }

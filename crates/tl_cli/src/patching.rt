@@ -103,7 +103,7 @@ fn write_file(
     match replace(rt, file, suffix, bytes) {
         Ok(()) => Answer::Found,
         Err(error) if error.kind() == ErrorKind::InvalidInput => {
-            let _ = eprintln!(rt; "tl: {file}: no regular file");
+            let _ = eprintln!(rt; "tl: {file}: not a regular file");
             Answer::Failed(Failure::Fault)
         }
         Err(error) => Answer::Failed(report_error(rt, file, &error)),

@@ -134,7 +134,7 @@ and the exit status is 1.";
 
 const FIRST_IN: &str = "\
 Example:
-  tl prepend --html -i head '<meta charset=utf-8>' *.html    declare the encoding
+  tl prepend --html -i head '<meta charset=utf-8>' *.html   declare UTF-8
 
 TEXT is escaped, but with --html.
 Nothing else in the page changes. A page that can't be edited this way is left

@@ -38,7 +38,8 @@ SELECTOR is one of CSS (Level 4), and matches elements:
   :not(..) :is(..) :where(..) :has(..) :empty :root :first-child :last-child
   :only-child :nth-child(2n+1 of S) :nth-last-child(..), and -of-type
 A value that is no name is quoted: 'img[src$=\".png\"]'. Behind a \\ any character
-is part of a name: '[\\@click]'. docs/COMMANDS.md says what differs from browsers.
+is part of a name: '[\\@click]'. docs/DIFFERENCES.md has what browsers do
+otherwise.
 
 Several -a, or -a and -t, give a line of values for each match, separated by
 tabs, or as --csv has it: -a href -a class -t. There -t is the readable text on

@@ -261,7 +261,8 @@ pub fn program<'w>(alloc: Global, version: &'w str) -> Result<Command<'w>, Alloc
         .about(ABOUT)
         .version(version)
         .after_help(PROGRAM)
-        .subcommand_required(true);
+        .subcommand_required(true)
+        .arg_required_else_help(true);
     for verb in &VERBS {
         program = program.subcommand(verb.command(alloc)?)?;
     }
