@@ -603,10 +603,8 @@ What is refused.
   [2]
   $ printf '<a>\377' >bytes
   $ tl set -i a k v bytes
-  tl: bytes: no UTF-8 at byte 3; --encoding names the encoding (err)
-  [2]
   $ od -An -c bytes | tr -d ' \n'
-  <a>377 (no-eol)
+  <ak="v">377 (no-eol)
   $ printf '<\0?\0x\0m\0l\0 \0v\0?\0>\0<\0p\0>\0a\0' | tl set p k v
   <\x00?\x00x\x00m\x00l\x00 \x00v\x00?\x00>\x00<\x00p\x00 \x00k\x00=\x00"\x00v\x00"\x00>\x00a\x00 (esc) (no-eol)
   $ printf '<meta charset=latin1><p>a' | tl set p k é
@@ -672,13 +670,13 @@ A browser may read a `style` or `script` behind an `svg` and its like as markup:
   tl: -: a browser may read the text as markup in the element at line 1, after noscript at line 1: leave out '<' and '&', or move the element before it (err)
   [2]
   $ for front in '<template></template>' '<select>' '<svg><b><math></svg>' '<svg></p><math></svg>' '<noscript></noscript>'; do
-  >   printf '%s<style>a</style>' "$front" | tl fill style '<' 2>&1 | grep -o 'as [a-z]* begins'
+  >   printf '%s<style>a</style>' "$front" | tl fill style '<' 2>&1 | grep -o 'after [a-z]* at'
   > done
-  as template begins
-  as select begins
-  as svg begins
-  as svg begins
-  as noscript begins
+  after template at
+  after select at
+  after svg at
+  after svg at
+  after noscript at
 
 Nor does an element get such a name before a raw text with one of them.
 

@@ -590,15 +590,15 @@ as the same tree by it. A page with bytes that are wrong isn't changed.
   $ printf '<p>\342\202<b>\377</b>\300' | tl remove b | LC_ALL=C sed -n l
   <p>\342\202\300$
   $ printf '<p>\342\202<b>x</b>\254' | tl remove b
-  tl: -: bytes that are no UTF-8 would be read otherwise by this change (err)
+  tl: -: invalid bytes would be read otherwise after this edit; tl text --strict says where (err)
   [2]
   $ printf '<p>\342\202<b>x</b>\254' | tl unwrap b | LC_ALL=C sed -n l
   <p>\342\202x\254$
   $ printf '<p title="\377">a' | tl set '[title="\FFFD"]' k v
-  tl: -: bytes that are no UTF-8 would be read otherwise by this change (err)
+  tl: -: invalid bytes would be read otherwise after this edit; tl text --strict says where (err)
   [2]
   $ printf '<p>\377' | tl set p k "$(printf '\364\217\277\277')"
-  tl: -: bytes that are no UTF-8 would be read otherwise by this change (err)
+  tl: -: invalid bytes would be read otherwise after this edit; tl text --strict says where (err)
   [2]
   $ printf '<p>\377\364\217\277\277' | tl set p k v
   tl: -: no UTF-8 at byte 3; --encoding names the encoding (err)

@@ -479,5 +479,5 @@ Help says how pages are read.
   1
   1
   1
-  $ tl --help | grep -o '^Pages are read into the tree that browsers build of them'
-  Pages are read into the tree that browsers build of them
+  $ tl --help | grep -o '^Pages are parsed as browsers parse them'
+  Pages are parsed as browsers parse them

@@ -744,11 +744,11 @@ What is said of each reason.
 What goes is told on standard error by `--removed`, each with the place of its start tag and why; what is printed stays as it is. Nothing is told of what is in an element that goes whole, nor of one that nobody wrote.
 
   $ printf '<p onclick=f()>a\n  <script>b</script><i>c' | tl sanitize --tags p --removed
+  <p>a
+    c</p> (no-eol)
   -:1:1: <p onclick>: the key isn't listed (err)
   -:2:3: <script>: what is in it isn't shown as markup (err)
   -:2:21: <i>: the tag isn't listed (err)
-  <p>a
-    c</p> (no-eol)
   $ printf 'é<table><td>a<a HREF=javascript:b TITLE=c>d<svg><path>' >gone.html
   $ tl sanitize --removed gone.html >/dev/null
   gone.html:1:2: <table>: the tag isn't listed (err)
@@ -756,9 +756,9 @@ What goes is told on standard error by `--removed`, each with the place of its s
   gone.html:1:14: <a href>: the value may not stand here (err)
   gone.html:1:44: <svg>: it is no element of HTML (err)
   $ printf '\357\273\277<p>a<object><P>b' | tl sanitize --removed
+  <p>ab</p> (no-eol)
   -:1:5: <object>: the tag isn't listed (err)
   -:1:13: <p>: the tag may not stand here (err)
-  <p>ab</p> (no-eol)
   $ printf '<p>a' | tl sanitize --removed
   <p>a</p> (no-eol)
   $ tl sanitize --removed gone.html none 2>&1 >/dev/null | tail -1

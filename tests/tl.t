@@ -998,6 +998,7 @@ Help names each command and each option, and words the lists.
   --policy
   --prefix
   --relative-links
+  --removed
   --strict
   --tags
   $ for command in set unset rename remove unwrap replace fill prepend append before after; do tl $command --help; done | grep -oE -e '--[a-z-]+' | sort -u

@@ -81,7 +81,7 @@ def sections(notes):
     made = {"DESCRIPTION": []} | {it: [] for it in SECTIONS.values()}
     for part in notes.split("\n\n"):
         name = next((name for words, name in SECTIONS.items() if part.startswith(words)), "DESCRIPTION")
-        made[name].append(re.sub(r"^(Examples|Exit status):\s*", "", part))
+        made[name].append(re.sub(r"^(Examples:\n|Exit status: )", "", part))
     return {name: "\n\n".join(parts) for name, parts in made.items() if parts}
 
 

@@ -27,7 +27,7 @@ _tl() {
         append) options='--html -i --in-place --backup --dry-run --diff -v --verbose --ok --encoding -h --help' ;;
         before) options='--html -i --in-place --backup --dry-run --diff -v --verbose --ok --encoding -h --help' ;;
         after) options='--html -i --in-place --backup --dry-run --diff -v --verbose --ok --encoding -h --help' ;;
-        sanitize) options='--no-name --comments --documents --tags --keys --link-keys --links --classes --prefix --relative-links --nofollow-links --policy --encoding --strict -h --help' ;;
+        sanitize) options='--no-name --comments --documents --tags --keys --link-keys --links --classes --prefix --relative-links --nofollow-links --policy --removed --encoding --strict -h --help' ;;
         help) COMPREPLY=($(compgen -W 'select links text table print outline set unset rename remove unwrap replace fill prepend append before after sanitize' -- "$word")); return ;;
     esac
     case $word in

@@ -61,7 +61,7 @@ impl fmt::Display for Uneditable {
             ),
             Uneditable::Unread(_) => f.write_str("the new text would not be read back in the page"),
             Uneditable::Joined => f.write_str(
-                "bytes that are no UTF-8 would be read otherwise; --strict of tl text says where",
+                "invalid bytes would be read otherwise after this edit; tl text --strict says where",
             ),
         }
     }
