@@ -1,6 +1,6 @@
 """What browsers make of pages that `tl sanitize` made safe.
 
-    ./x compare browser [--program FILE] [--runs N] [--trees N [--ammonia FILE]] [--attacks N] [--seed N]
+    ./x compare browser [--program FILE] [--runs N] [--trees N [--ammonia FILE]] [--seed N]
 
 The pages are those of `tests/safe.t`, which attack a browser, and N made up of pieces of such pages.
 Each is handed to Chromium as it stands and once it is sanitized: as a document in a frame, put into a live element, and put
@@ -15,10 +15,6 @@ into twelve elements, from `div` to `template`, and as a document, with a doctyp
 writes it. The same pages go through the Rust crate ammonia where its program is named, which `cargo build --release` makes in
 compare/ammonia.
 
-With --attacks it looks at N pages for each of these policies that are mutations of those by which sanitizers were passed (attacks.py):
-whether a script runs or a link would run one, whether anything stands there beyond the policy, and whether the plain sanitizer prints
-the same.
-
 Status: 0 where nothing is wrong, 1 where something is, 2 for words that aren't understood, 3 where Chromium or html5lib isn't
 installed (Debian: chromium, python3-html5lib).
 """
@@ -32,7 +28,6 @@ from tools.programs import gate_build
 from tools.transcripts import rows_of
 from tools.workspace import ROOT, Stop, text_of
 
-from .attacks import attack
 from .chromium import Missing, all_answers, chromium, version
 from .markup import tags_read, tags_written, tree_said, tree_with_values_as_texts
 from .misnested import POLICIES, misnested
@@ -105,11 +100,11 @@ def policy(program, words=()):
     return Policy(said_by([program, "sanitize", *words, "--policy"]).splitlines())
 
 
-def judged(browser, pages, size=BATCH):
+def judged(browser, pages):
     """What is seen in Chromium of each page."""
     # A script of the page calls `parent.stolen(N)`.
-    batch = [page.replace(CALL, f"parent.stolen({number % size})") for number, page in enumerate(pages)]
-    return all_answers(browser, "harness.html", batch, size)
+    batch = [page.replace(CALL, f"parent.stolen({number % BATCH})") for number, page in enumerate(pages)]
+    return all_answers(browser, "harness.html", batch, BATCH)
 
 
 def trees_seen(browser, prints):
@@ -155,14 +150,10 @@ def look_at_trees(given, browser, called):
     return len(wrong)
 
 
-def beyond_policy(lists, seen):
-    """What is seen of a print that its policy doesn't list."""
-    return sorted(set(seen["elements"]) - set(lists.tags) | set(seen["keys"]) - set(lists.keys))
-
-
 def look_at_pages(program, browser, pages, words):
     """What Chromium runs and builds of pages, as they stand and as they are printed by a policy that these words say."""
     lists = policy(program, words)
+    elements, keys = set(lists.tags), set(lists.keys)
     prints = sanitized(program, pages, words)
     wrong = 0
     for page, text in zip(pages, prints):
@@ -175,7 +166,8 @@ def look_at_pages(program, browser, pages, words):
             wrong += 1
     before, after = judged(browser, pages), judged(browser, prints)
     for page, text, seen in zip(pages, prints, after):
-        if seen["script"] or seen["link"] or seen["comments"] or beyond_policy(lists, seen):
+        beyond = set(seen["elements"]) - elements | set(seen["keys"]) - keys
+        if seen["script"] or seen["link"] or seen["comments"] or beyond:
             print(f"browser: {page!r} is printed as {text!r}: {seen}")
             wrong += 1
     for said, all_seen in (("as they stand", before), ("sanitized", after)):
@@ -184,30 +176,10 @@ def look_at_pages(program, browser, pages, words):
     return wrong
 
 
-def look_at_attacks(given, browser, called):
-    """Pages that attack a browser, by a policy: what Chromium runs and finds of their prints."""
-    tags = POLICIES[called]
-    words = ["--tags", tags.replace(" ", ",")] if tags else []
-    lists = policy(given.program, words)
-    chance = random.Random(f"attacks {called} {given.seed}")
-    pages = [attack(chance) for _ in range(given.attacks)]
-    prints = sanitized(given.program, pages, words)
-    wrong = 0
-    for page, text, seen in zip(pages, prints, judged(browser, prints, MANY)):
-        is_other = text != safe_print(page, lists)
-        if is_other or seen["script"] or seen["link"] or seen["comments"] or beyond_policy(lists, seen):
-            print(f"browser: {called}: {page!r} is printed as {text!r}{', otherwise by the plain sanitizer' if is_other else ''}: {seen}")
-            wrong += 1
-    effective = sum(1 for seen in judged(browser, pages[:MANY], MANY) if seen["script"] or seen["link"])
-    print(f"browser: {called}: {len(pages)} attacks: {wrong} wrong; of the first {min(MANY, len(pages))} as they stand a script runs of "
-          f"{effective}, or a link would run one", flush=True)
-    return wrong
-
-
 def main(parser, words):
     parser.add_argument("--program", metavar="FILE")
     parser.add_argument("--ammonia", metavar="FILE")
-    for it, otherwise in (("runs", 1000), ("trees", 0), ("attacks", 0), ("seed", 1)):
+    for it, otherwise in (("runs", 1000), ("trees", 0), ("seed", 1)):
         parser.add_argument(f"--{it}", type=int, default=otherwise, metavar="N")
     given = parser.parse_args(words)
     given.program = given.program or gate_build("tl")
@@ -221,10 +193,7 @@ def main(parser, words):
         print(f"browser: {missing} isn't installed; nothing was compared")
         return 3
     print(f"browser: {version(browser)}, html5lib {html5lib.__version__}", flush=True)
-    if given.attacks:
-        sys.setrecursionlimit(10000)
-        wrong = sum(look_at_attacks(given, browser, called) for called in POLICIES)
-    elif given.trees:
+    if given.trees:
         # a tree is a list in a list for each element
         sys.setrecursionlimit(10000)
         wrong = sum(look_at_trees(given, browser, called) for called in POLICIES)
