@@ -8,3 +8,5 @@ pub mod Ending
 pub mod Reading
 pub mod Held
 pub mod Places
+pub mod ReadOnce
+pub mod Unread

@@ -5,4 +5,5 @@ pub mod Examples
 pub mod Operations
 pub mod Errors
 pub mod View
+pub mod Unmade
 pub mod Inner

@@ -1,14 +1,14 @@
 -- Operations of the DOM on elements of a page, as edits of its tree. Markup is read in an element,
 -- as `innerHTML`, `outerHTML` and `insertAdjacentHTML` read it.
-use Rattle.std.specs.Option.{option_and_then, option_map, unwrap_or}
-use Rattle.std.specs.Prelude.{Bool, List, None, Option, Some, codes, false, if◌then◌else◌, length, map, nat_lt, suc, true, zero, ℕ, ◌&&◌, ◌≡◌}
+use Rattle.std.specs.Option.{option_and_then, option_map, option_to_list, unwrap_or}
+use Rattle.std.specs.Prelude.{Bool, List, None, Option, Some, [], codes, false, flat_map, if◌then◌else◌, length, map, nat_lt, suc, true, zero, ℕ, ◌&&◌, ◌≡◌, ◌∷◌}
 use Rattle.std.specs.Str.{bytes_eq}
 use Rattle.tl_dom_spec.specs.HtmlTree.{Context, html_fragment_by, standard}
 use Rattle.tl_dom_spec.specs.Tags.{Attribute, Tag, bare_tag, plain_attribute}
-use Rattle.tl_tree.specs.Asked.{end_at, first_child_at, kind_of, name_of, namespace_of, node_at, parent_at}
+use Rattle.tl_tree.specs.Asked.{end_at, first_child_at, kind_of, name_of, namespace_by, namespace_of, node_at, parent_at}
 use Rattle.tl_tree.specs.Rows.{Node, Row, an_element, rows_of}
 use Rattle.tl_tree.specs.declared.entries.Namespace.{Namespace}
-use Rattle.tl_tree.specs.declared.entries.Namespace.TheVariants.{Html}
+use Rattle.tl_tree.specs.declared.entries.Namespace.TheVariants.{Html, Math}
 use Rattle.tl_tree.specs.declared.kind.Kind.{Kind}
 use Rattle.tl_tree.specs.declared.kind.Kind.TheVariants.{Contents}
 use Rattle.tl_tree_edit.specs.Changes as changes
@@ -54,12 +54,17 @@ holder rows position n = if is_inner position then Some n else parent_at rows n
 abbrev pub without_space : Attribute → Attribute
 without_space a = plain_attribute (a.key, a.value)
 
+-- those of which rules ask in a context: `encoding` of an `annotation-xml`, which is of `math`
+abbrev pub context_attributes : Option Namespace → List Attribute → List Attribute
+context_attributes (Some Math) attributes = map without_space attributes
+context_attributes _ attributes = []
+
 -- a node as a context; what is no element is a `body`
 abbrev pub tag_for : Option Node → Tag
 tag_for (Some (an_element tag)) = record {
   space = tag.space;
   name = tag.name;
-  attributes = map without_space tag.attributes;
+  attributes = context_attributes (Some (namespace_by tag.space)) tag.attributes;
   source = None;
 }
 tag_for _ = bare_tag (codes "body")
@@ -143,13 +148,34 @@ row_for rows change n =
 abbrev pub edit_for : List Row → Change → ℕ → Edit
 edit_for rows change n = record { number = row_for rows change n; change = change }
 
--- an operation on the element of a number
-abbrev pub made : List Row → Bool → Operation → ℕ → Edit
-made rows is_quirks (changes_each change) n = edit_for rows change n
-made rows is_quirks (puts position markup) n =
+-- the contents of a `template` that goes without what is in it go likewise
+abbrev pub contents_first : List Row → Option ℕ → Option ℕ
+contents_first rows None = None
+contents_first rows (Some first) = if is_contents rows first then Some first else None
+
+abbrev pub also_changed : List Row → Change → ℕ → Option ℕ
+also_changed rows changes.Unwrap n = contents_first rows (first_child_at rows n)
+also_changed rows _ n = None
+
+abbrev pub change_at : Change → ℕ → Edit
+change_at change n = record { number = n; change = change }
+
+abbrev pub edits_for : List Row → Change → ℕ → List Edit
+edits_for rows change n =
+    edit_for rows change n
+    ∷ option_to_list (option_map (change_at change) (also_changed rows change n))
+
+-- markup that is put, seen from the element of a number
+abbrev pub put_at : List Row → Bool → Position → List ℕ → ℕ → Edit
+put_at rows is_quirks position markup n =
     edit_for rows (put_there position (Trees (fragment rows is_quirks position markup n))) n
+
+-- an operation on the element of a number
+abbrev pub made : List Row → Bool → Operation → ℕ → List Edit
+made rows is_quirks (changes_each change) n = edits_for rows change n
+made rows is_quirks (puts position markup) n = put_at rows is_quirks position markup n ∷ []
 
 -- what a page, whose document is in quirks mode or isn't, says with an operation on some elements
 abbrev pub IsMade : List Row → Bool → List ℕ → Operation → List Row → Type 0
 IsMade old is_quirks numbers operation new =
-    events new ≡ edited (map (made old is_quirks operation) numbers) old
+    events new ≡ edited (flat_map (made old is_quirks operation) numbers) old

@@ -15,6 +15,7 @@ mod meets;
 mod node;
 mod operation;
 mod position;
+mod readings;
 mod walk;
 
 pub use change::{Change, Edit, Put};
