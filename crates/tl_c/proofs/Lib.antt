@@ -7,9 +7,9 @@ pub mod Readings
 pub mod Room
 pub mod Rows
 pub mod SafePages
-pub mod Removals
 pub mod Selectors
 mod SelectorValues
 mod Texts
 mod Values
+pub mod WrittenRemovals
 pub mod Joined

@@ -29,13 +29,20 @@ abbrev pub key_said : Option (List ℕ) → List ℕ
 key_said None = []
 key_said (Some key) = key
 
--- where the start tag begins and ends, the number of why, how many bytes the name and the key have,
--- and both
-abbrev pub bytes_of : Source → List ℕ → Gone → List ℕ
-bytes_of source name gone =
+-- where the start tag begins and ends, the number of why, and how many bytes the name and the key
+-- have
+abbrev pub head_bytes : Source → Cause → List ℕ → List ℕ → List ℕ
+head_bytes source cause name key =
     number_bytes source.start ++ (number_bytes source.end
-    ++ (number_bytes (number_of_cause gone.cause) ++ (number_bytes (length name)
-    ++ (number_bytes (length (key_said gone.key)) ++ (name ++ key_said gone.key)))))
+    ++ (number_bytes (number_of_cause cause) ++ (number_bytes (length name)
+    ++ number_bytes (length key))))
+
+-- the same, and the name and the key
+abbrev pub tag_bytes : Source → Cause → List ℕ → List ℕ → List ℕ
+tag_bytes source cause name key = head_bytes source cause name key ++ (name ++ key)
+
+abbrev pub bytes_of : Source → List ℕ → Gone → List ℕ
+bytes_of source name gone = tag_bytes source gone.cause name (key_said gone.key)
 
 -- of an element that the standard puts in, which nobody wrote, there are none
 abbrev pub removal_bytes : (ℕ → Option Source) → List Row → Gone → List ℕ

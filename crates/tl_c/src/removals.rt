@@ -1,7 +1,7 @@
 //! What goes of a page by a policy.
-ghost use Rattle.std.specs.Prelude.{◌≡◌, ◌≢◌, ◌<◌, ◌++◌, Err, IfOk, IsUtf8, OnOk, length};
+ghost use Rattle.std.specs.Prelude.{◌≡◌, ◌≢◌, ◌<◌, ◌++◌, Err, IfOk, IsUtf8, OnOk, length, map, option_copied};
 ghost use Rattle.tl_c.specs.LentLists.{kept_lawful, kept_with, lent_lists, number_of_refusal, refusal_in};
-ghost use Rattle.tl_c.specs.Removals.{AreRemovals, AreRemovalsBy, GivesSome, number_of_cause, removal_bytes, removals_written};
+ghost use Rattle.tl_c.specs.Removals.{AreRemovals, AreRemovalsBy, GivesSome, head_bytes, key_said, number_of_cause, removal_bytes, removals_written, tag_bytes};
 ghost use Rattle.tl_c.specs.SafePages.{kept_page};
 ghost use Rattle.tl_dom_spec.specs.HtmlForest.{HtmlForest};
 ghost use Rattle.tl_html_spec.specs.HtmlTokenizer.{without_mark};
@@ -13,6 +13,7 @@ ghost use Rattle.tl_tree_safe.specs.ListOptions.{lists_in};
 ghost use Rattle.tl_tree_safe.specs.OfPolicy.{lists_of};
 ghost use Rattle.tl_tree_safe.specs.Refusals.{first_refusal};
 ghost use Rattle.tl_tree_safe.specs.Removed.{gone_of, removed};
+ghost use Rattle.tl_tree_safe.specs.RemovedLines.{written_name};
 
 use crate::attribute::write_number;
 use crate::lent_lists::LentLists;
@@ -20,7 +21,7 @@ use crate::own_policy::{lawful_policy, texts_of};
 use crate::page::failure_of;
 use std::alloc::{AllocError, Global};
 use tl_page::{Failure, text};
-use tl_tree::Tree;
+use tl_tree::{Source, Tree};
 use tl_tree_safe::{
     Cause, Policy, Removal, WordLists, read_in_div, sanitize_telling, without_mark,
 };
@@ -39,8 +40,58 @@ fn number_of_cause(cause: Cause) -> usize
     }
 }
 
-// Writes where the start tag stands, the number of why, how many bytes the name and the key have,
-// and both, if the tag was written.
+// The name of an element, and nothing of another node.
+fn written_name<'t>(tree: &'t Tree<'_>, number: usize) -> &'t [u8]
+    ensures { result.now ≡ written_name (rows_in tree.now) number }
+{
+    tree.name(number).unwrap_or(b"")
+}
+
+// The key of an attribute, and nothing where the element itself goes.
+fn key_said(key: Option<&[u8]>) -> &[u8]
+    ensures { result.now ≡ key_said (option_copied key.entry) }
+{
+    match key {
+        Some(key) => key,
+        None => b"",
+    }
+}
+
+// Writes where a start tag stands, the number of why, and how many bytes the name and the key have.
+fn write_head(
+    source: &Source,
+    cause: Cause,
+    name: &[u8],
+    key: &[u8],
+    out: &mut Vec<u8>,
+) -> Result<(), AllocError>
+    ensures { OnOk result (out.new.items
+        ≡ out.old.items ++ head_bytes source.now cause name.now key.now) }
+{
+    write_number(source.start, out)?;
+    write_number(source.end, out)?;
+    write_number(number_of_cause(cause), out)?;
+    write_number(name.len(), out)?;
+    write_number(key.len(), out)
+}
+
+// The same, and the name and the key.
+fn write_tag(
+    source: &Source,
+    cause: Cause,
+    name: &[u8],
+    key: &[u8],
+    out: &mut Vec<u8>,
+) -> Result<(), AllocError>
+    ensures { OnOk result (out.new.items
+        ≡ out.old.items ++ tag_bytes source.now cause name.now key.now) }
+{
+    write_head(source, cause, name, key, out)?;
+    out.extend_from_slice(name)?;
+    out.extend_from_slice(key)
+}
+
+// The same of what goes, if its tag was written.
 fn write_removal(tree: &Tree<'_>, removal: Removal<'_>, out: &mut Vec<u8>) -> Result<(), AllocError>
     ensures { OnOk result (out.new.items ≡ out.old.items
         ++ removal_bytes (source_at tree.now) (rows_in tree.now) (gone_of removal.entry)) }
@@ -48,15 +99,25 @@ fn write_removal(tree: &Tree<'_>, removal: Removal<'_>, out: &mut Vec<u8>) -> Re
     let Some(source) = tree.source(removal.node) else {
         return Ok(());
     };
-    let name = tree.name(removal.node).unwrap_or(b"");
-    let key = removal.key.unwrap_or(b"");
-    write_number(source.start, out)?;
-    write_number(source.end, out)?;
-    write_number(number_of_cause(removal.cause), out)?;
-    write_number(name.len(), out)?;
-    write_number(key.len(), out)?;
-    out.extend_from_slice(name)?;
-    out.extend_from_slice(key)
+    let name = written_name(tree, removal.node);
+    let key = key_said(removal.key);
+    write_tag(&source, removal.cause, name, key, out)
+}
+
+// What goes of a tree, written.
+fn write_removals(
+    alloc: Global,
+    tree: &Tree<'_>,
+    removals: &[Removal<'_>],
+) -> Result<Vec<u8>, AllocError>
+    ensures { IfOk result (λ bytes. bytes.items ≡ removals_written (source_at tree.now)
+        (rows_in tree.now) (map gone_of removals.now)) }
+{
+    let mut out = Vec::new(alloc);
+    for removal in removals {
+        write_removal(tree, *removal, &mut out)?;
+    }
+    Ok(out)
 }
 
 // What goes of a tree.
@@ -72,11 +133,7 @@ fn removals_of_tree(
     let mut page = Vec::new(alloc);
     let mut removals = Vec::new(alloc);
     sanitize_telling(alloc, policy, tree, &mut page, &mut removals)?;
-    let mut out = Vec::new(alloc);
-    for removal in removals.iter() {
-        write_removal(tree, *removal, &mut out)?;
-    }
-    Ok(out)
+    write_removals(alloc, tree, removals.as_slice())
 }
 
 // What goes of a page by a policy.

@@ -1,4 +1,5 @@
 use Rattle.std.proofs.Common.{subst, sym}
+use Rattle.std.specs.Option.{option_map}
 use Rattle.tl_page.specs.Outcome.{Gives}
 use Rattle.tl_c.specs.CompiledSelectors.{css_held}
 use Rattle.tl_c.specs.Css.{IsClosestBy, answer_by, found_or_refused}
@@ -9,8 +10,9 @@ pub returns-clause-finds : goal.returns-clause-finds
 returns-clause-finds c = λ n found.
     let was = c.replace-held.ensures.replaced in
     let had = c.replace-own.ensures.replaced in
-    let asked = subst (λ own. IsClosestBy c.args.node (css_held own) c.args.document.now.held n) (sym had) found in
-    let there = subst (λ held. IsClosestBy c.args.node (css_held _) held n) (sym was) asked in
-    let gives = subst (λ held. Gives (λ number. number) (found_or_refused (answer_by (css_held _) (tree_in c.args.node held) n)) c.compiled_innermost-found.result) was (c.compiled_innermost-found.ensures n there) in
-    let answer = subst (λ own. Gives (λ number. number) (found_or_refused (answer_by (css_held own) (tree_in c.args.node c.args.document.now.held) n)) c.compiled_innermost-found.result) had gives in
+    let own = option_map (λ selector. selector.value) c.replace-own.result in
+    let asked = subst (λ compiled. IsClosestBy c.args.node (css_held compiled) c.args.document.now.held n) (sym had) found in
+    let there = subst (λ held. IsClosestBy c.args.node (css_held own) held n) (sym was) asked in
+    let gives = subst (λ held. Gives (λ number. number) (found_or_refused (answer_by (css_held own) (tree_in c.args.node held) n)) c.compiled_innermost-found.result) was (c.compiled_innermost-found.ensures n there) in
+    let answer = subst (λ compiled. Gives (λ number. number) (found_or_refused (answer_by (css_held compiled) (tree_in c.args.node c.args.document.now.held) n)) c.compiled_innermost-found.result) had gives in
     c.put_one.ensures.put _ answer

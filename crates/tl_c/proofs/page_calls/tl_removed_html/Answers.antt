@@ -1,6 +1,6 @@
 use Rattle.std.proofs.Common.{List, ℕ}
 use Rattle.tl_html_spec.specs.HtmlTokenizer.{without_mark}
-use Rattle.tl_c.proofs.Removals.{put_some}
+use Rattle.tl_c.proofs.WrittenRemovals.{put_some}
 use Rattle.tl_c.specs.LentLists.{kept_with, lent_lists}
 use Rattle.tl_c.specs.Removals.{AreRemovalsBy}
 use Rattle.tl_c.proofs.page_calls.tl_removed_html.Goals as goal
