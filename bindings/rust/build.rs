@@ -1,5 +1,6 @@
-//! Links libtl.a from the folder that TL_LIB names, or, where that isn't set, what pkg-config says of `libtl`. Where there is neither,
-//! the crate is still checked and documented; only a program isn't linked.
+//! Links libtl.a from the folder that TL_LIB names; else the one in `lib`, which the crate of a release has; else what pkg-config says
+//! of `libtl`. Where there is none, the crate is still checked and documented; only a program isn't linked.
+use std::path::Path;
 use std::process::Command;
 
 fn main() {
@@ -10,7 +11,7 @@ fn main() {
     if std::env::var_os("TL_REFUSALS").is_some() {
         println!("cargo:rustc-cfg=tl_refusals");
     }
-    if let Ok(folder) = std::env::var("TL_LIB") {
+    if let Some(folder) = given_folder().or_else(own_folder) {
         println!("cargo:rerun-if-changed={folder}/libtl.a");
         println!("cargo:rustc-link-search=native={folder}");
         println!("cargo:rustc-link-lib=static=tl");
@@ -21,6 +22,17 @@ fn main() {
         None => println!("cargo:warning=libtl is not found: set TL_LIB to the folder of libtl.a"),
     }
     println!("cargo:rustc-link-lib=tl");
+}
+
+// The folder that the environment names.
+fn given_folder() -> Option<String> {
+    std::env::var("TL_LIB").ok()
+}
+
+// The folder of this crate that has the library.
+fn own_folder() -> Option<String> {
+    let folder = format!("{}/lib", std::env::var("CARGO_MANIFEST_DIR").ok()?);
+    Some(folder).filter(|it| Path::new(it).join("libtl.a").exists())
 }
 
 // The folder that pkg-config says the library is in.

@@ -16,6 +16,7 @@ import shutil
 import tempfile
 import zipfile
 
+from ..packages import has_modules, make_wheel, python_for_wheels
 from ..running import must, run
 from ..workspace import ROOT, Stop, Workspace, put, text_of
 from . import library
@@ -173,14 +174,12 @@ class Callers:
         """Makes a wheel that has the library, and unpacks it; else why not."""
         shared, package = f"{self.installed}/lib/libtl.so", f"{self.room}/python"
         shutil.copytree(f"{ROOT}/bindings/python", package, ignore=shutil.ignore_patterns("__pycache__"))
-        self.python = next((it for it in ("python3", "/usr/bin/python3") if has_modules(it, "pip", "setuptools", "wheel")), None)
+        self.python = python_for_wheels()
         self.python_env = {**os.environ, "TLHTML_LIBRARY": shared, "TL_VERSION": self.version, "PYTHONPATH": package}
         if not self.python:
             self.python = "python3"
             return "no pip, setuptools and wheel"
-        words = [self.python, "-m", "pip", "wheel", "-q", "--no-deps", "--no-build-isolation", "--no-index", "-w", f"{self.room}/wheels"]
-        must([*words, package], "no wheel", env=self.python_env)
-        with zipfile.ZipFile(glob.glob(f"{self.room}/wheels/tlhtml-*.whl")[0]) as it:
+        with zipfile.ZipFile(make_wheel(self.installed, self.version, f"{self.room}/wheels")) as it:
             it.extractall(f"{self.room}/unpacked")
         self.python_env |= {"TLHTML_LIBRARY": "", "PYTHONPATH": f"{self.room}/unpacked"}
         return None
@@ -199,12 +198,6 @@ class Callers:
     def of_cluster(self):
         """Whether the tests of Python read pages in a cluster too."""
         return None if has_modules(self.python, "distributed") else "no distributed of dask"
-
-
-def has_modules(python, *modules):
-    """Whether there is such a Python, and it has these modules."""
-    program = "import importlib.util, sys; sys.exit(not all(map(importlib.util.find_spec, sys.argv[1:])))"
-    return bool(shutil.which(python)) and not run([python, "-c", program, *modules]).status
 
 
 def check(folder=None, over_ci=False, unproved=False):

@@ -1,25 +1,24 @@
-"""Makes tl-VERSION-x86_64.tar.gz, for those who have neither the toolchain nor a proof.
+"""Makes the packages of a release, for those who have neither the toolchain nor a proof.
 
-    ./x release VERSION
+    ./x release VERSION             into the folder release
+    ./x release --of DIR VERSION    a .deb, a wheel and a crate of a folder as the tarball has it, to try them: of ./x library --unproved too
 
-It has the programs, `tl-static`, which is `tl` with the C library inside, their manual page and completions, the library for C, static and shared, with its headers and libtl.pc, the
-packages for Rust and Python and the callers in C, the documents, the licence, the README, and a note that says what they were proved
-and built with. First the gate and ./x mutants have to pass. VERSION is that of the sources
-(`VERSION` of crates/tl_page) and of a heading of CHANGELOG.md, and what is packed is a commit, without times, owners and an order of
-files of its own. It is tried as it is packed; where root runs it, each program too where there is nothing but the C library, and
-`tl-static` where there is nothing at all. The same commit, the same kit and the same C library give the same bytes. It takes cc, the
-static C library, strip and readelf (Debian: gcc, libc6-dev, binutils).
+They are tl-VERSION-x86_64.tar.gz, a .deb, a wheel for Python and a crate for Rust with the library inside; ./x installed installs each
+in an empty root and runs it there. The tarball has the programs, `tl-static`, which is `tl` with the C library inside, their manual
+page and completions, the library for C, static and shared, with its headers and libtl.pc, the packages for Rust and Python and the
+callers in C, the documents, the licence, the README, and a note that says what they were proved and built with. First the gate and
+./x mutants have to pass. VERSION is that of the sources (`VERSION` of crates/tl_page) and of a heading of CHANGELOG.md, and what is
+packed is a commit, without times, owners and an order of files of its own. It is tried as it is packed. The same commit, the same kit
+and the same C library give the same bytes. It takes cc, the static C library, strip, readelf and dpkg-deb (Debian: gcc, libc6-dev,
+binutils, dpkg), and a Python with pip, setuptools and wheel.
 """
-import glob
-import gzip
 import hashlib
-import io
 import os
 import re
 import shutil
-import tarfile
 import tempfile
 
+from .. import packages
 from ..programs import crate_of
 from ..running import must
 from ..workspace import ROOT, Stop, Workspace, put, rt, text_of
@@ -29,10 +28,6 @@ from . import bindings, library, runs
 PROGRAMS = ("tl", "tlq")
 # The program that is packed once more, with the C library inside.
 STATIC = "tl"
-# What a program prints of a page, with the words that it takes: `tl print` with what browsers put in.
-ALONE = (("tl", "print"), ("tl", "sanitize"), ("tlq", "print"), (f"{STATIC}-static", "print"), (f"{STATIC}-static", "sanitize"))
-PAGE, PRINT = b"<p>a<b>c", b"<p>a<b>c</b></p>"
-WHOLE = b"<html><head></head><body>%s</body></html>" % PRINT
 
 
 def git(*words):
@@ -73,84 +68,53 @@ def pack_tracked(folder, to):
             shutil.copy(f"{ROOT}/{file}", f"{to}/{file}")
 
 
-def least_c_library(packed):
-    """The least C library that the programs run with."""
-    said = must(["readelf", "-V", *glob.glob(f"{packed}/bin/*")], "no readelf").out.decode()
-    versions = {tuple(map(int, it.split("."))) for it in re.findall(r"GLIBC_([0-9.]+)", said)}
-    return "GLIBC_" + ".".join(map(str, max(versions)))
-
-
-def linked_with(file):
-    """The shared libraries that a program is loaded with; none with one that has all inside."""
-    if b"INTERP" not in must(["readelf", "-l", file], "no readelf").out:
-        return []
-    return re.findall(r"/\S+", must(["ldd", file], "no ldd").out.decode())
-
-
-def run_alone(packed, program, *words):
-    """Runs a packed program on a page where there is nothing but what it is linked with."""
-    with tempfile.TemporaryDirectory(prefix="x-release-") as root:
-        os.mkdir(f"{root}/bin")
-        shutil.copy(f"{packed}/bin/{program}", f"{root}/bin/program")
-        for file in linked_with(f"{packed}/bin/{program}"):
-            os.makedirs(root + os.path.dirname(file), exist_ok=True)
-            shutil.copy(os.path.realpath(file), root + file)
-        ran = must(["chroot", root, "/bin/program", *words], f"{program} needs more than what it is linked with", given=PAGE)
-        if ran.out != (WHOLE if words == ("print",) and program != "tlq" else PRINT):
-            raise Stop(f"{program} {' '.join(words)}: where there is nothing else it wrote {ran.out!r}")
-
-
 def try_package(packed):
     """Tries what is packed."""
     if not runs.check(["tests/tl.t", "tests/tlq.t", "tests/documents.t"], folder=f"{packed}/bin"):
         raise Stop("a packed program does not do what it should")
     bindings.check(packed)
-    if os.getuid() == 0:
-        for it in ALONE:
-            run_alone(packed, *it)
-    else:
-        print("release: not root, so no program was run where there is nothing else")
 
 
-def pack(folder, name, when):
-    """The bytes of the package: names in order, without owners, each of the time of the commit."""
+def make_folder(workspace, version, packed):
+    """Makes the folder that the tarball has, and tries it."""
+    for it in ("bin", "lib"):
+        os.makedirs(f"{packed}/{it}")
+    for it in PROGRAMS:
+        pack_program(workspace, it, packed)
+    pack_static(workspace, STATIC, packed)
+    library.install(packed)
+    for it in ("share", "docs", "bindings"):
+        pack_tracked(it, packed)
+    for it in ("LICENSE", "README.md", "INSTALL.md", "CHANGELOG.md"):
+        shutil.copy(f"{ROOT}/{it}", packed)
+    note = [f"tl {version}, commit {git('rev-parse', 'HEAD')}", f"proved and built with {rt('version').splitlines()[0]}"]
+    note += [f"needs glibc {packages.least_c_library(packed)} or later, on x86-64-v2"]
+    put(f"{packed}/BUILT", "\n".join(note) + "\n")
+    try_package(packed)
 
-    def plain(it):
-        it.uid = it.gid = 0
-        it.uname = it.gname = ""
-        it.mtime, it.mode = when, 0o755 if it.isdir() or it.mode & 0o100 else 0o644
-        return it
 
-    made = io.BytesIO()
-    with tarfile.open(fileobj=made, mode="w", format=tarfile.USTAR_FORMAT) as archive:
-        paths = [f"{at}/{it}" for at, folders, files in os.walk(f"{folder}/{name}") for it in [*folders, *files]]
-        for path in [f"{folder}/{name}", *sorted(paths)]:
-            archive.add(path, os.path.relpath(path, folder), recursive=False, filter=plain)
-    return gzip.compress(made.getvalue(), 9, mtime=0)
+def make_tarball(workspace, version, to, when):
+    """Makes the tarball and all that is made of its folder, and returns their paths."""
+    name = f"tl-{version}-x86_64"
+    with tempfile.TemporaryDirectory(prefix="x-release-") as room:
+        make_folder(workspace, version, f"{room}/{name}")
+        with open(f"{to}/{name}.tar.gz", "wb") as it:
+            it.write(packages.packed_tar(room, name, when))
+        return [f"{to}/{name}.tar.gz", *packages.make_all(f"{room}/{name}", version, to, when)]
 
 
 def main(parser, words):
+    parser.add_argument("--of", metavar="DIR")
     parser.add_argument("version", metavar="VERSION")
-    version = parser.parse_args(words).version
-    workspace, name = Workspace(), f"tl-{version}-x86_64"
-    check_version(workspace, version)
-    with tempfile.TemporaryDirectory(prefix="x-release-") as room:
-        packed = f"{room}/{name}"
-        for it in ("bin", "lib"):
-            os.makedirs(f"{packed}/{it}")
-        for it in PROGRAMS:
-            pack_program(workspace, it, packed)
-        pack_static(workspace, STATIC, packed)
-        library.install(packed)
-        for it in ("share", "docs", "bindings"):
-            pack_tracked(it, packed)
-        for it in ("LICENSE", "README.md", "CHANGELOG.md"):
-            shutil.copy(f"{ROOT}/{it}", packed)
-        note = [f"tl {version}, commit {git('rev-parse', 'HEAD')}", f"proved and built with {rt('version').splitlines()[0]}"]
-        put(f"{packed}/BUILT", "\n".join([*note, f"needs {least_c_library(packed)} or later, on x86-64-v2"]) + "\n")
-        try_package(packed)
-        data = pack(room, name, int(git("show", "-s", "--format=%ct", "HEAD")))
-    with open(f"{ROOT}/{name}.tar.gz", "wb") as it:
-        it.write(data)
-    print(f"{hashlib.sha256(data).hexdigest()}  {name}.tar.gz")
+    given = parser.parse_args(words)
+    workspace, to, when = Workspace(), f"{ROOT}/release", int(git("show", "-s", "--format=%ct", "HEAD"))
+    os.makedirs(to, exist_ok=True)
+    if given.of:
+        made = packages.make_all(os.path.abspath(given.of), given.version, to, when)
+    else:
+        check_version(workspace, given.version)
+        made = make_tarball(workspace, given.version, to, when)
+    for file in made:
+        with open(file, "rb") as it:
+            print(f"{hashlib.sha256(it.read()).hexdigest()}  {os.path.relpath(file, ROOT)}")
     return 0
