@@ -207,8 +207,8 @@ def pages(file, version):
     """What is made of the help of a program, by the paths where it stands."""
     program = Program(file)
     return {
-        "share/man/tl.1": manual(program, version),
-        "share/completions/tl.bash": bash(program),
-        "share/completions/_tl": zsh(program),
-        "share/completions/tl.fish": fish(program),
+        "share/man/man1/tl.1": manual(program, version),
+        "share/bash-completion/completions/tl": bash(program),
+        "share/zsh/site-functions/_tl": zsh(program),
+        "share/fish/vendor_completions.d/tl.fish": fish(program),
     }

@@ -1,6 +1,6 @@
 """Writes the manual page and the completions of `tl`, for bash, zsh and fish, from what `tl --help` says.
 
-    ./x manual                writes share/man/tl.1 and share/completions, by the program that was proved and built last
+    ./x manual                writes the manual page and the completions in share, by the program that was proved and built last
     ./x manual --unproved     by a build of ./x try
     ./x manual --check        looks whether they are what the program says, and writes nothing
 

@@ -85,7 +85,7 @@ def make_folder(workspace, version, packed):
     library.install(packed)
     for it in ("share", "docs", "bindings"):
         pack_tracked(it, packed)
-    for it in ("LICENSE", "README.md", "INSTALL.md", "CHANGELOG.md"):
+    for it in ("LICENSE", "README.md", "INSTALL.md", "CHANGELOG.md", "ARCHITECTURE.md", "CONTRIBUTING.md"):
         shutil.copy(f"{ROOT}/{it}", packed)
     note = [f"tl {version}, commit {git('rev-parse', 'HEAD')}", f"proved and built with {rt('version').splitlines()[0]}"]
     note += [f"needs glibc {packages.least_c_library(packed)} or later, on x86-64-v2"]
