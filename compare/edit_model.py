@@ -210,7 +210,7 @@ def refusal(page, rows, word, content):
     """What is said of a page in which these elements are found: an expression for it; None where the edit is done."""
     untagged = next((row for row in rows if row.place is None), None)
     if untagged and word != "unset":
-        return f"the element that is put in at byte {page.byte(page.put_in_before(untagged))} has no tag"
+        return f"the element that browsers add at byte {page.byte(page.put_in_before(untagged))} has no tag to edit"
     broken = None if word in TAG_WORDS else next((row for row in reversed(rows) if page.crossings(row)), None)
     if broken:
         return not_whole_line(page, broken)
@@ -230,23 +230,23 @@ def line_and_column(page, place):
 def not_whole_line(page, row):
     """What is said of the last element that isn't whole, with a place where it is crossed."""
     places = "|".join(line_and_column(page, at) for at in sorted(page.crossings(row)))
-    return f"the element at {line_and_column(page, row.place)} isn't whole, .* what begins at (?:{places}) is in it .*"
+    return rf"only attributes of the element at {line_and_column(page, row.place)} can be edited: .* \(see (?:{places})\)"
 
 
 def refusal_of_elements(page, found, word, content):
     try:
         asked = asked_of(page, found, word, content)
     except NotMeant as it:
-        return f"the element at byte {page.byte(page.begins[it.at])} can't be changed so"
+        return f"the element at byte {page.byte(page.begins[it.at])} can't be edited this way: its end tag is missing, or its kind doesn't allow it"
     if is_across(asked):
-        return r"the change of the element at byte \d+ cuts across another"
+        return r"the edit of the element at byte \d+ overlaps the edit of another"
     if is_unwritten(page, asked):
-        return r"what is put can't stand there, for the element at byte \d+"
+        return r"the new content or name can't be written there \(element at byte \d+\)"
     if it := misread(page, asked):
         return misread_line(page, word, *it)
     should, parts = spliced(page, asked)
     if asked and written_so(parts, should) is None:
-        return f"the page would be read otherwise, for the element at byte {page.byte(page.begins[found[0]])}"
+        return rf"this edit would change how other parts of the page are read \(element at byte {page.byte(page.begins[found[0]])}\)"
     return None
 
 
@@ -254,9 +254,9 @@ def misread_line(page, word, at, cause):
     """What is said where a browser may read as markup what is asked for."""
     line, other = (page.text.count("\n", 0, page.begins[token]) + 1 for token in (at, cause))
     if word == "rename":
-        return f"by that name for the element at line {line} a browser may read .*"
+        return f"the element at line {line} can't get that name: a browser may then read .*"
     name = page.tokens[cause][1]
-    return f"a browser may read the text as markup in the element at line {line}, as {name} begins before it, at line {other}: .*"
+    return f"a browser may read the text as markup in the element at line {line}, after {name} at line {other}: .*"
 
 
 # What is written

@@ -136,47 +136,47 @@ static inline tl_list tl_list_of(const char *words) {
 /* Why lists are no policy. */
 enum {
     TL_NO_REASON = 0,
-    TL_MALFORMED_TAG = 1,    /* a name of a tag is a letter of a-z, and then letters and digits */
-    TL_OPAQUE_TAG = 2,       /* what stands in this tag is no markup of HTML */
-    TL_STRUCTURAL_TAG = 3,   /* this tag changes what is around it, or loads what is no page */
-    TL_MALFORMED_KEY = 4,    /* a key is a letter of a-z, and then letters and `-` */
-    TL_SCRIPT_KEY = 5,       /* the value of this key is a script */
-    TL_ACTIVE_KEY = 6,       /* the value of this key is no name, text or link */
-    TL_LINK_KEY = 7,         /* this key holds links, and is no link key */
-    TL_MALFORMED_LINK = 8,   /* links begin with printable ASCII without spaces, `"`, `<` and `>` */
-    TL_ACTIVE_SCHEME = 9,    /* links that begin so are programs or documents */
+    TL_MALFORMED_TAG = 1,    /* a tag name is a letter a-z, then letters and digits */
+    TL_OPAQUE_TAG = 2,       /* the content of this element isn't HTML markup */
+    TL_STRUCTURAL_TAG = 3,   /* this element affects the page around it, or loads other content */
+    TL_MALFORMED_KEY = 4,    /* an attribute name is a letter a-z, then letters and `-` */
+    TL_SCRIPT_KEY = 5,       /* the value of this attribute is a script */
+    TL_ACTIVE_KEY = 6,       /* the value of this attribute isn't a name, text or URL */
+    TL_LINK_KEY = 7,         /* the value of this attribute is a URL, so it has to be a link attribute too */
+    TL_MALFORMED_LINK = 8,   /* a link prefix is printable ASCII without spaces, `"`, `<` and `>` */
+    TL_ACTIVE_SCHEME = 9,    /* URLs that begin so are programs or documents */
     TL_NO_SCHEME = 10,       /* links begin with a scheme and its `:`, or with `/`, `#`, `?` or `.` */
-    TL_MALFORMED_PREFIX = 11, /* a prefix of names is a letter of a-z, and then letters and `-` */
-    TL_UNLISTED_MARK = 12,   /* links are marked at `rel`, which is no listed key, or a link key */
-    TL_NO_TABLE_BODY = 13,   /* `tbody`, `thead` or `tfoot` of this table is missing, so rows lose their texts */
-    TL_NO_ROW = 14,          /* `tr` of this table is missing, so rows lose their texts */
-    TL_NO_CELL = 15,         /* `td` or `th` of this table is missing, so cells lose their texts */
-    TL_NO_CAPTION = 16,      /* `caption` of this table is missing, so captions lose their texts */
-    TL_NO_TABLE = 17,        /* `table` is missing, in which alone this tag may stand */
+    TL_MALFORMED_PREFIX = 11, /* a prefix is a letter a-z, then letters and `-` */
+    TL_UNLISTED_MARK = 12,   /* links are marked with `rel`, which isn't allowed, or is a link attribute */
+    TL_NO_TABLE_BODY = 13,   /* `tbody`, `thead` or `tfoot` has to be allowed too, or rows lose their text */
+    TL_NO_ROW = 14,          /* `tr` has to be allowed too, or rows lose their text */
+    TL_NO_CELL = 15,         /* `td` or `th` has to be allowed too, or cells lose their text */
+    TL_NO_CAPTION = 16,      /* `caption` has to be allowed too, or captions lose their text */
+    TL_NO_TABLE = 17,        /* `table` has to be allowed too, as this element belongs in one */
     TL_MALFORMED_CLASS = 18  /* a pattern of classes is a word without spaces and `"`, with a `*` at its end alone */
 };
 
 /* A reason in words. */
 static inline const char *tl_reason_text(uint8_t reason) {
     switch (reason) {
-    case TL_MALFORMED_TAG: return "no such tag: a name is a letter of a-z, and then letters and digits";
-    case TL_OPAQUE_TAG: return "no policy may list this tag: what stands in it is no markup of HTML";
-    case TL_STRUCTURAL_TAG: return "no policy may list this tag: it changes what is around it, or loads what is no page";
-    case TL_MALFORMED_KEY: return "no such key: a key is a letter of a-z, and then letters and `-`";
-    case TL_SCRIPT_KEY: return "no policy may list this key: its value is a script";
-    case TL_ACTIVE_KEY: return "no policy may list this key: its value is no name, text or link";
-    case TL_LINK_KEY: return "this key holds links, and is no link key";
-    case TL_MALFORMED_LINK: return "links begin with printable ASCII without spaces, `\"`, `<` and `>`";
-    case TL_ACTIVE_SCHEME: return "links that begin so are programs or documents";
-    case TL_NO_SCHEME: return "no scheme with its `:`, and no `/`, `#`, `?` or `.` stands first";
-    case TL_MALFORMED_PREFIX: return "no prefix: it is a letter of a-z, and then letters and `-`";
-    case TL_UNLISTED_MARK: return "links can't be marked at this key: it is no listed key, or a link key";
-    case TL_NO_TABLE_BODY: return "`tbody`, `thead` or `tfoot` of this table is missing, so rows lose their texts";
-    case TL_NO_ROW: return "`tr` of this table is missing, so rows lose their texts";
-    case TL_NO_CELL: return "`td` or `th` of this table is missing, so cells lose their texts";
-    case TL_NO_CAPTION: return "`caption` of this table is missing, so captions lose their texts";
-    case TL_NO_TABLE: return "`table` is missing, in which alone this tag may stand";
-    case TL_MALFORMED_CLASS: return "no pattern of classes: it is a word without spaces and `\"`, with a `*` at its end alone";
+    case TL_MALFORMED_TAG: return "invalid tag name: expected a letter a-z, then letters and digits";
+    case TL_OPAQUE_TAG: return "a policy can't allow this element: its content isn't HTML markup";
+    case TL_STRUCTURAL_TAG: return "a policy can't allow this element: it affects the page around it, or loads other content";
+    case TL_MALFORMED_KEY: return "invalid attribute name: expected a letter a-z, then letters and `-`";
+    case TL_SCRIPT_KEY: return "a policy can't allow this attribute: its value is a script";
+    case TL_ACTIVE_KEY: return "a policy can't allow this attribute: its value isn't a name, text or URL";
+    case TL_LINK_KEY: return "the value of this attribute is a URL, so it has to be a link attribute too";
+    case TL_MALFORMED_LINK: return "invalid link prefix: expected printable ASCII without spaces, `\"`, `<` and `>`";
+    case TL_ACTIVE_SCHEME: return "URLs that begin so are programs or documents";
+    case TL_NO_SCHEME: return "invalid link prefix: expected a scheme with its `:`, or `/`, `#`, `?` or `.` first";
+    case TL_MALFORMED_PREFIX: return "invalid prefix: expected a letter a-z, then letters and `-`";
+    case TL_UNLISTED_MARK: return "links can't be marked with this attribute: it isn't allowed, or is a link attribute";
+    case TL_NO_TABLE_BODY: return "`tbody`, `thead` or `tfoot` has to be allowed too, or rows lose their text";
+    case TL_NO_ROW: return "`tr` has to be allowed too, or rows lose their text";
+    case TL_NO_CELL: return "`td` or `th` has to be allowed too, or cells lose their text";
+    case TL_NO_CAPTION: return "`caption` has to be allowed too, or captions lose their text";
+    case TL_NO_TABLE: return "`table` has to be allowed too, as this element belongs in one";
+    case TL_MALFORMED_CLASS: return "invalid class pattern: expected no spaces and no `\"`, and `*` only at the end";
     default: return "no reason";
     }
 }
@@ -367,12 +367,12 @@ enum {
     TL_NO_OPERATOR = 4,      /* `=` or one of `~= |= ^= $= *=` has to stand here, or a `]` */
     TL_NO_VALUE = 5,         /* a name or a string has to stand here */
     TL_NO_FLAG = 6,          /* this flag is neither `i` nor `s` */
-    TL_NO_FORMULA = 7,       /* what stands here is no formula `an+b`, or doesn't end one */
+    TL_NO_FORMULA = 7,       /* `an+b`, `odd` or `even` has to be here */
     TL_LARGE_NUMBER = 8,     /* this number is above 2147483647 */
     TL_NO_PSEUDO_CLASS = 9,  /* no pseudo-class has this name */
     TL_PSEUDO_ELEMENT = 10,  /* pseudo-elements are no tags */
-    TL_NAMESPACE = 11,       /* no prefix of a namespace is known */
-    TL_NEEDS_ARGUMENT = 12,  /* the pseudo-class needs an argument in brackets */
+    TL_NAMESPACE = 11,       /* an unknown namespace prefix */
+    TL_NEEDS_ARGUMENT = 12,  /* the pseudo-class needs an argument in parentheses */
     TL_TAKES_NONE = 13,      /* the pseudo-class takes no argument */
     TL_TOO_DEEP = 14,        /* so many selectors wait here for those inside them that this one is too much */
     TL_UNEXPECTED = 15       /* this byte can't stand here */
@@ -381,31 +381,31 @@ enum {
 /* A cause in words. */
 static inline const char *tl_cause_text(uint8_t cause) {
     switch (cause) {
-    case TL_UNCLOSED: return "this is opened and never closed";
-    case TL_NO_SELECTOR: return "a selector is missing";
-    case TL_NO_NAME: return "a name is missing";
-    case TL_NO_OPERATOR: return "`=`, `~=`, `|=`, `^=`, `$=`, `*=` or `]` is missing";
-    case TL_NO_VALUE: return "a value is missing";
-    case TL_NO_FLAG: return "the only flags are `i` and `s`";
-    case TL_NO_FORMULA: return "this is no formula such as `2n+1`, `odd` or `3`";
-    case TL_LARGE_NUMBER: return "the number is above 2147483647";
-    case TL_NO_PSEUDO_CLASS: return "no such pseudo-class";
-    case TL_PSEUDO_ELEMENT: return "a pseudo-element is no tag";
-    case TL_NAMESPACE: return "no prefix of a namespace is known here";
-    case TL_NEEDS_ARGUMENT: return "an argument in brackets is missing";
+    case TL_UNCLOSED: return "opened here and never closed";
+    case TL_NO_SELECTOR: return "expected a selector";
+    case TL_NO_NAME: return "expected a name";
+    case TL_NO_OPERATOR: return "expected `=`, `~=`, `|=`, `^=`, `$=`, `*=` or `]`";
+    case TL_NO_VALUE: return "expected a value";
+    case TL_NO_FLAG: return "expected the flag `i` or `s`";
+    case TL_NO_FORMULA: return "expected `an+b`, `odd` or `even`";
+    case TL_LARGE_NUMBER: return "number above 2147483647";
+    case TL_NO_PSEUDO_CLASS: return "unknown pseudo-class";
+    case TL_PSEUDO_ELEMENT: return "pseudo-elements match no element";
+    case TL_NAMESPACE: return "unknown namespace prefix";
+    case TL_NEEDS_ARGUMENT: return "expected an argument in parentheses";
     case TL_TAKES_NONE: return "this pseudo-class takes no argument";
-    case TL_TOO_DEEP: return "too many selectors inside one another";
-    case TL_UNEXPECTED: return "this can't stand here";
+    case TL_TOO_DEEP: return "selectors nested too deeply";
+    case TL_UNEXPECTED: return "unexpected text";
     case 16: return "this element has no start tag";
-    case 17: return "this tag can't be changed so";
-    case 18: return "the page would be read otherwise than asked";
-    case 19: return "this element can't be changed so: it isn't closed, or is a tag alone";
-    case 20: return "this change and that of another element cut across each other";
-    case 21: return "nothing can stand behind the end of the page";
-    case 22: return "what is put can't stand there";
-    case 23: return "a browser may read a raw text as markup there";
-    case 24: return "this element has no tag in the page: browsers put it in here";
-    case 25: return "what begins here is in this element by its tags or to browsers, and not by both";
+    case 17: return "the new attribute or name can't be written in this tag";
+    case 18: return "this edit would change how other parts of the page are read";
+    case 19: return "this element can't be edited this way: its end tag is missing, or its kind doesn't allow it";
+    case 20: return "this edit overlaps the edit of another element";
+    case 21: return "nothing can be inserted after the end of the page";
+    case 22: return "the new content or name can't be written there";
+    case 23: return "a browser may read raw text as markup here";
+    case 24: return "browsers add this element: it has no tag to edit";
+    case 25: return "only attributes of this element can be edited: what begins here is in it by its tags or in browsers, but not both";
     default: return "no cause";
     }
 }
@@ -555,7 +555,7 @@ enum {
     TL_NOT_MEANT = 19,   /* the element isn't closed, is a tag alone, or it is a body or html, after which nothing can stand */
     TL_ACROSS = 20,      /* its change and that of another element cut across each other */
     TL_END_OF_PAGE = 21, /* what is put would stand behind the end of the page; none does */
-    TL_NO_CONTENT = 22,  /* what is put can't stand there: markup in a raw text, or a text that would be read otherwise */
+    TL_NO_CONTENT = 22,  /* the new content or name can't be written there: markup in raw text, or text that would be read as something else */
     TL_MISREAD = 23,     /* a browser may read as markup a text with `&` or `<` in a `style`, `script` and the like, as it stands
                             behind a `svg`, `math`, `frameset`, `template`, `noscript` or `select`: such a text would be put
                             there, or the element would get such a name before such a text */

@@ -94,7 +94,7 @@ Selectors:
   $ tl select -a src 'p > img[src$=".png"]' shelf
   d.png
   $ tl select 'p:hover' none none
-  tl: invalid selector: at byte 2: no such pseudo-class: `hover` (a page has no states) (err)
+  tl: invalid selector: at byte 2: unknown pseudo-class: `hover` (a parsed page has no such state) (err)
     p:hover (err)
       ^ (err)
   [2]
@@ -147,7 +147,7 @@ Safe pages:
   $ tl sanitize --tags p,b,a --keys href --links https: page.html
   <p>x y <a href="https://z.example">w</a></p> (no-eol)
   $ tl sanitize --tags p --keys onclick page.html
-  tl: no policy may list the key `onclick`: its value is a script (err)
+  tl: a policy can't allow the attribute `onclick`: its value is a script (err)
   [2]
 
 `tlq`:

@@ -205,7 +205,7 @@ A text may come from a file, or from standard input; one that begins with @ has 
   [4]
   $ printf '\377' >wrong
   $ tl append p @wrong page
-  tl: wrong: no UTF-8 at byte 0 (err)
+  tl: wrong: invalid UTF-8 at byte 0 (err)
   [2]
   $ printf x | tl append p @- -
   tl: standard input can't be both the page and what is put in (err)

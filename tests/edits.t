@@ -117,7 +117,7 @@ What changes is told; a file whose bytes stay isn't written, and where nothing c
   $ printf '<b class=x><p>1</b>2' | tl set b class --suffix y
   <b class="xy"><p>1</b>2 (no-eol)
   $ printf '<table><tr class=a>' | tl set tbody class --add-word b
-  tl: -: the element that is put in at byte 7 has no tag (err)
+  tl: -: the element that browsers add at byte 7 has no tag to edit (err)
   [2]
   $ printf '<table><tr class=a>' | tl set tbody class --suffix b
   <table><tr class=a> (no-eol)
@@ -426,7 +426,7 @@ A body ends at its end tag, where that stands last in the page.
   $ tl remove body whole
   </html>
   $ tl after body x whole
-  tl: whole: the element at byte 0 can't be changed so (err)
+  tl: whole: the element at byte 0 can't be edited this way: its end tag is missing, or its kind doesn't allow it (err)
   [2]
   $ printf '<html><body><p>a</BODY> <!--b--></html>\n' >open
   $ tl append body '!' open
@@ -462,19 +462,19 @@ Something may stand behind the last byte, where what the page ends with is read 
   $ printf '<p>1 <' | tl append --html p 'b>'
   <p>1 <</>b> (no-eol)
   $ printf '<p><title>a' | tl append p x
-  tl: -: the page would be read otherwise, for the element at byte 0 (err)
+  tl: -: this edit would change how other parts of the page are read (element at byte 0) (err)
   [2]
   $ printf '<p>a<b' | tl append p x
-  tl: -: the page would be read otherwise, for the element at byte 0 (err)
+  tl: -: this edit would change how other parts of the page are read (element at byte 0) (err)
   [2]
   $ printf '<p>a<!-- b' | tl after p x
-  tl: -: the page would be read otherwise, for the element at byte 0 (err)
+  tl: -: this edit would change how other parts of the page are read (element at byte 0) (err)
   [2]
   $ printf '<p><title>a' | tl append --html p '<i>'
-  tl: -: the page would be read otherwise, for the element at byte 0 (err)
+  tl: -: this edit would change how other parts of the page are read (element at byte 0) (err)
   [2]
   $ printf '<li><plaintext>a' | tl after li x
-  tl: -: the page would be read otherwise, for the element at byte 0 (err)
+  tl: -: this edit would change how other parts of the page are read (element at byte 0) (err)
   [2]
 
 In their files.
@@ -516,33 +516,33 @@ What is refused.
 
   $ printf '<div><q>x</div>y' >open
   $ tl remove q open
-  tl: open: the element at byte 5 can't be changed so (err)
+  tl: open: the element at byte 5 can't be edited this way: its end tag is missing, or its kind doesn't allow it (err)
   [2]
   $ tl unwrap -i q open
-  tl: open: the element at byte 5 can't be changed so (err)
+  tl: open: the element at byte 5 can't be edited this way: its end tag is missing, or its kind doesn't allow it (err)
   [2]
   $ tl append q x open
-  tl: open: the element at byte 5 can't be changed so (err)
+  tl: open: the element at byte 5 can't be edited this way: its end tag is missing, or its kind doesn't allow it (err)
   [2]
   $ tl prepend q 'x' open
   <div><q>xx</div>y (no-eol)
   $ tl before q 'x' open
   <div>x<q>x</div>y (no-eol)
   $ tl after q 'x' open
-  tl: open: the element at byte 5 can't be changed so (err)
+  tl: open: the element at byte 5 can't be edited this way: its end tag is missing, or its kind doesn't allow it (err)
   [2]
   $ printf '<p>a<br>b</p>' >break
   $ tl fill br x break
-  tl: break: the element at byte 4 can't be changed so (err)
+  tl: break: the element at byte 4 can't be edited this way: its end tag is missing, or its kind doesn't allow it (err)
   [2]
   $ tl rename br b break
-  tl: break: the element at byte 4 can't be changed so (err)
+  tl: break: the element at byte 4 can't be edited this way: its end tag is missing, or its kind doesn't allow it (err)
   [2]
   $ tl rename p br break
-  tl: break: the element at byte 0 can't be changed so (err)
+  tl: break: the element at byte 0 can't be edited this way: its end tag is missing, or its kind doesn't allow it (err)
   [2]
   $ tl rename p title break
-  tl: break: the element at byte 0 can't be changed so (err)
+  tl: break: the element at byte 0 can't be edited this way: its end tag is missing, or its kind doesn't allow it (err)
   [2]
   $ tl rename p 'a b' break
   tl: invalid element name: a b (err)
@@ -554,35 +554,35 @@ What is refused.
   tl: invalid element name:  b\x20 (esc) (err)
   [2]
   $ tl append --html p '<!-- ' break
-  tl: break: the page would be read otherwise, for the element at byte 0 (err)
+  tl: break: this edit would change how other parts of the page are read (element at byte 0) (err)
   [2]
   $ tl append --html p '<i t="' break
-  tl: break: the page would be read otherwise, for the element at byte 0 (err)
+  tl: break: this edit would change how other parts of the page are read (element at byte 0) (err)
   [2]
   $ printf '<title>a</title>' | tl fill --html title '<b>'
-  tl: -: what is put can't stand there, for the element at byte 0 (err)
+  tl: -: the new content or name can't be written there (element at byte 0) (err)
   [2]
   $ printf '<script>a</script>' | tl fill script '</script>'
-  tl: -: the page would be read otherwise, for the element at byte 0 (err)
+  tl: -: this edit would change how other parts of the page are read (element at byte 0) (err)
   [2]
   $ printf '<script>a &amp; b</script>' | tl unwrap script
-  tl: -: the page would be read otherwise, for the element at byte 0 (err)
+  tl: -: this edit would change how other parts of the page are read (element at byte 0) (err)
   [2]
   $ printf '<p>a</p></p>' | tl remove p
-  tl: -: the element that is put in at byte 12 has no tag (err)
+  tl: -: the element that browsers add at byte 12 has no tag to edit (err)
   [2]
   $ tl remove 'b[' break
-  tl: invalid selector: at byte 2: a name is missing (err)
+  tl: invalid selector: at byte 2: expected a name (err)
     b[ (err)
       ^ (err)
   [2]
   $ tl set -i 'p[' k v
-  tl: invalid selector: at byte 2: a name is missing (err)
+  tl: invalid selector: at byte 2: expected a name (err)
     p[ (err)
       ^ (err)
   [2]
   $ tl set -i 'p[' k v missing
-  tl: invalid selector: at byte 2: a name is missing (err)
+  tl: invalid selector: at byte 2: expected a name (err)
     p[ (err)
       ^ (err)
   [2]
@@ -627,7 +627,7 @@ What is refused.
   tl: invalid attribute name:\x20 (esc) (err)
   [2]
   $ printf '<p>a</p></p>' | tl set p k v
-  tl: -: the element that is put in at byte 12 has no tag (err)
+  tl: -: the element that browsers add at byte 12 has no tag to edit (err)
   [2]
 
 A browser may read a `style` or `script` behind an `svg` and its like as markup: no text with `&` or `<` is put there.
@@ -646,7 +646,7 @@ A browser may read a `style` or `script` behind an `svg` and its like as markup:
   <svg>
   <style>a>b</style></svg><style>b</style> (no-eol)
   $ tl fill --html 'svg style' '<g/>' drawing
-  tl: drawing: what is put can't stand there, for the element at byte 6 (err)
+  tl: drawing: the new content or name can't be written there (element at byte 6) (err)
   [2]
   $ tl before 'svg style' 'a<b' drawing
   <svg>
@@ -658,7 +658,7 @@ A browser may read a `style` or `script` behind an `svg` and its like as markup:
   tl: -: a browser may read the text as markup in the element at line 1, after svg at line 1: leave out '<' and '&', or move the element before it (err)
   [2]
   $ printf '<svg><p><xmp>a' | tl append xmp '<'
-  tl: -: the element at byte 8 can't be changed so (err)
+  tl: -: the element at byte 8 can't be edited this way: its end tag is missing, or its kind doesn't allow it (err)
   [2]
   $ printf '<svg><title>a</title></svg>' | tl fill title '<'
   <svg><title>&lt;</title></svg> (no-eol)
@@ -720,14 +720,14 @@ What a start tag stands for several times is changed once.
 An element that browsers put in has no tag that could be changed; a key that it has not can go.
 
   $ tl set -i tbody class k rows rows
-  tl: rows: the element that is put in at byte 7 has no tag (err)
-  tl: rows: the element that is put in at byte 7 has no tag (err)
+  tl: rows: the element that browsers add at byte 7 has no tag to edit (err)
+  tl: rows: the element that browsers add at byte 7 has no tag to edit (err)
   [2]
   $ tl remove 'body *' rows
-  tl: rows: the element that is put in at byte 7 has no tag (err)
+  tl: rows: the element that browsers add at byte 7 has no tag to edit (err)
   [2]
   $ printf 'x' | tl append head y
-  tl: -: the element that is put in at byte 0 has no tag (err)
+  tl: -: the element that browsers add at byte 0 has no tag to edit (err)
   [2]
   $ printf '<p class=x>a' | tl unset '*' class
   <p>a (no-eol)

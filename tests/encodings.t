@@ -9,10 +9,10 @@ the first such byte; one in windows-1252 (and latin1, which is the same) has `é
   $ printf '\351<meta charset=latin1>' | tl text --encoding auto
   é (no-eol)
   $ printf '\357\273\277\351<meta charset=latin1>' | tl text --strict
-  tl: -: no UTF-8 at byte 3; --encoding names the encoding (err)
+  tl: -: invalid UTF-8 at byte 3; --encoding names the encoding (err)
   [2]
   $ printf '\351' | tl text --strict
-  tl: -: no UTF-8 at byte 0; --encoding names the encoding (err)
+  tl: -: invalid UTF-8 at byte 0; --encoding names the encoding (err)
   [2]
   $ printf '\351<meta charset=latin1>' | tl text
   é (no-eol)
@@ -23,10 +23,10 @@ the first such byte; one in windows-1252 (and latin1, which is the same) has `é
   $ printf '\351<meta charset=us-ascii />' | tl text
   é (no-eol)
   $ printf '\351<meta charset=us-ascii/>' | tl text --strict
-  tl: -: no UTF-8 at byte 0; --encoding names the encoding (err)
+  tl: -: invalid UTF-8 at byte 0; --encoding names the encoding (err)
   [2]
   $ printf '\351<meta charset=utf-8>' | tl text --strict
-  tl: -: no UTF-8 at byte 0; --encoding names the encoding (err)
+  tl: -: invalid UTF-8 at byte 0; --encoding names the encoding (err)
   [2]
   $ printf '\351<meta name=x><meta charset=latin1>' | tl text
   é (no-eol)
@@ -35,29 +35,29 @@ the first such byte; one in windows-1252 (and latin1, which is the same) has `é
   $ printf '\351<meta content="the charset is" charset=latin1>' | tl text
   é (no-eol)
   $ printf '\351<p charset=latin1>' | tl text --strict
-  tl: -: no UTF-8 at byte 0; --encoding names the encoding (err)
+  tl: -: invalid UTF-8 at byte 0; --encoding names the encoding (err)
   [2]
   $ printf '\351<meta name=x>charset=latin1' | tl text --strict
-  tl: -: no UTF-8 at byte 0; --encoding names the encoding (err)
+  tl: -: invalid UTF-8 at byte 0; --encoding names the encoding (err)
   [2]
   $ printf '\351<meta charset' | tl text --strict
-  tl: -: no UTF-8 at byte 0; --encoding names the encoding (err)
+  tl: -: invalid UTF-8 at byte 0; --encoding names the encoding (err)
   [2]
   $ printf '\351<meta charset=latin1' | tl text --strict
-  tl: -: no UTF-8 at byte 0; --encoding names the encoding (err)
+  tl: -: invalid UTF-8 at byte 0; --encoding names the encoding (err)
   [2]
   $ printf '\351<meta charset=latin1 <p>' | tl text
   é (no-eol)
   $ printf '\351<meta charset=utf-16>' | tl text --strict
-  tl: -: no UTF-8 at byte 0; --encoding names the encoding (err)
+  tl: -: invalid UTF-8 at byte 0; --encoding names the encoding (err)
   [2]
   $ printf '\351<meta charset=x-user-defined>' | tl text
   é (no-eol)
   $ printf '\351<meta charset="">' | tl text --strict
-  tl: -: no UTF-8 at byte 0; --encoding names the encoding (err)
+  tl: -: invalid UTF-8 at byte 0; --encoding names the encoding (err)
   [2]
   $ printf '\351<meta charset=>' | tl text --strict
-  tl: -: no UTF-8 at byte 0; --encoding names the encoding (err)
+  tl: -: invalid UTF-8 at byte 0; --encoding names the encoding (err)
   [2]
   $ printf '\351<meta charset=nope><meta charset=latin1>' | tl text
   é (no-eol)
@@ -74,7 +74,7 @@ the first such byte; one in windows-1252 (and latin1, which is the same) has `é
   $ printf '\351<meta charset=latin1 charset=koi8-r>' | tl text
   é (no-eol)
   $ printf '\351<meta charset=nope charset=latin1>' | tl text --strict
-  tl: -: no UTF-8 at byte 0; --encoding names the encoding (err)
+  tl: -: invalid UTF-8 at byte 0; --encoding names the encoding (err)
   [2]
   $ printf '\351<metadata charset=koi8-r><meta charset=latin1>' | tl text
   é (no-eol)
@@ -89,7 +89,7 @@ the first such byte; one in windows-1252 (and latin1, which is the same) has `é
   $ printf '\351<meta http-equiv=content-type content="charset charset = \047latin1\047 ">' | tl text
   é (no-eol)
   $ printf '\351<meta http-equiv=content-type content="charset=\047latin1">' | tl text --strict
-  tl: -: no UTF-8 at byte 0; --encoding names the encoding (err)
+  tl: -: invalid UTF-8 at byte 0; --encoding names the encoding (err)
   [2]
   $ printf '\351<meta http-equiv=content-type content=charset=latin1;x>' | tl text
   é (no-eol)
@@ -98,7 +98,7 @@ the first such byte; one in windows-1252 (and latin1, which is the same) has `é
   $ printf '\351<!--><meta charset=latin1>-->' | tl text
   é--> (no-eol)
   $ printf '\351<!-- <meta charset=latin1>' | tl text --strict
-  tl: -: no UTF-8 at byte 0; --encoding names the encoding (err)
+  tl: -: invalid UTF-8 at byte 0; --encoding names the encoding (err)
   [2]
   $ printf '\351<a title="<meta charset=koi8-r>"><meta charset=latin1>' | tl text
   é (no-eol)
@@ -109,12 +109,12 @@ the first such byte; one in windows-1252 (and latin1, which is the same) has `é
   $ printf '<?xml version="1.0" encoding="iso-8859-1"?><p>\351' | tl text
   é (no-eol)
   $ printf '<?xml version=\0471.0\047 encoding=\047utf-8\047?><p>\351' | tl text --strict
-  tl: -: no UTF-8 at byte 41; --encoding names the encoding (err)
+  tl: -: invalid UTF-8 at byte 41; --encoding names the encoding (err)
   [2]
   $ printf '<?xml version="1.0" encoding="latin1"?><p>café' | tl text
   cafÃ© (no-eol)
   $ printf '\357\273\277<?xml version="1.0" encoding="latin1"?><p>\351' | tl text --strict
-  tl: -: no UTF-8 at byte 45; --encoding names the encoding (err)
+  tl: -: invalid UTF-8 at byte 45; --encoding names the encoding (err)
   [2]
   $ printf '<?xml encoding\000\013 = \t\047latin1\047?>\351' | tl text
   é (no-eol)
@@ -127,66 +127,66 @@ the first such byte; one in windows-1252 (and latin1, which is the same) has `é
   $ printf '<?xml coding=\047koi8-r\047 encoding=\047latin1\047?>\351' | tl text
   é (no-eol)
   $ printf '<?xml version=\0471.0\047 encoding=\047utf-16\047?>\351' | tl text --strict
-  tl: -: no UTF-8 at byte 39; --encoding names the encoding (err)
+  tl: -: invalid UTF-8 at byte 39; --encoding names the encoding (err)
   [2]
   $ printf '<?xml version=\0471.0\047 encoding=\047nope\047?>\351' | tl text --strict
-  tl: -: no UTF-8 at byte 37; --encoding names the encoding (err)
+  tl: -: invalid UTF-8 at byte 37; --encoding names the encoding (err)
   [2]
   $ printf '<?xml version=\0471.0\047 encoding=\047\047?>\351' | tl text --strict
-  tl: -: no UTF-8 at byte 33; --encoding names the encoding (err)
+  tl: -: invalid UTF-8 at byte 33; --encoding names the encoding (err)
   [2]
   $ printf '<?xml version=\0471.0\047 encoding=\047 latin1\047?>\351' | tl text --strict
-  tl: -: no UTF-8 at byte 40; --encoding names the encoding (err)
+  tl: -: invalid UTF-8 at byte 40; --encoding names the encoding (err)
   [2]
   $ printf '<?xml version=\0471.0\047 encoding=\047latin1\n\047?>\351' | tl text --strict
-  tl: -: no UTF-8 at byte 40; --encoding names the encoding (err)
+  tl: -: invalid UTF-8 at byte 40; --encoding names the encoding (err)
   [2]
   $ printf '<?xml version=\0471.0\047 encoding=\047latin1\000\047?>\351' | tl text --strict
-  tl: -: no UTF-8 at byte 40; --encoding names the encoding (err)
+  tl: -: invalid UTF-8 at byte 40; --encoding names the encoding (err)
   [2]
   $ printf '<?xml version=\0471.0\047 encoding=latin1?>\351' | tl text --strict
-  tl: -: no UTF-8 at byte 37; --encoding names the encoding (err)
+  tl: -: invalid UTF-8 at byte 37; --encoding names the encoding (err)
   [2]
   $ printf '<?xml version=\0471.0\047 encoding=\047latin1"?>\351' | tl text --strict
-  tl: -: no UTF-8 at byte 39; --encoding names the encoding (err)
+  tl: -: invalid UTF-8 at byte 39; --encoding names the encoding (err)
   [2]
   $ printf '<?xml version=\0471.0\047 encoding \047latin1\047?>\351' | tl text --strict
-  tl: -: no UTF-8 at byte 39; --encoding names the encoding (err)
+  tl: -: invalid UTF-8 at byte 39; --encoding names the encoding (err)
   [2]
   $ printf '<?xml version=\0471.0\047 encoding\240=\047latin1\047?>\351' | tl text --strict
-  tl: -: no UTF-8 at byte 28; --encoding names the encoding (err)
+  tl: -: invalid UTF-8 at byte 28; --encoding names the encoding (err)
   [2]
   $ printf '<?xml version=\0471.0\047 encoding: encoding=\047latin1\047?>\351' | tl text --strict
-  tl: -: no UTF-8 at byte 49; --encoding names the encoding (err)
+  tl: -: invalid UTF-8 at byte 49; --encoding names the encoding (err)
   [2]
   $ printf '<?xml version=\0471.0\047 Encoding=\047latin1\047?>\351' | tl text --strict
-  tl: -: no UTF-8 at byte 39; --encoding names the encoding (err)
+  tl: -: invalid UTF-8 at byte 39; --encoding names the encoding (err)
   [2]
   $ printf '<?XML version=\0471.0\047 encoding=\047latin1\047?>\351' | tl text --strict
-  tl: -: no UTF-8 at byte 39; --encoding names the encoding (err)
+  tl: -: invalid UTF-8 at byte 39; --encoding names the encoding (err)
   [2]
   $ printf '<? xml version=\0471.0\047 encoding=\047latin1\047?>\351' | tl text --strict
-  tl: -: no UTF-8 at byte 40; --encoding names the encoding (err)
+  tl: -: invalid UTF-8 at byte 40; --encoding names the encoding (err)
   [2]
   $ printf '\n<?xml version=\0471.0\047 encoding=\047latin1\047?>\351' | tl text --strict
-  tl: -: no UTF-8 at byte 40; --encoding names the encoding (err)
+  tl: -: invalid UTF-8 at byte 40; --encoding names the encoding (err)
   [2]
   $ printf '<?xml version=\0471.0\047 encoding=\047latin1\047?\351' | tl text --strict
-  tl: -: no UTF-8 at byte 38; --encoding names the encoding (err)
+  tl: -: invalid UTF-8 at byte 38; --encoding names the encoding (err)
   [2]
   $ printf '<?xml version=\0471.0\047 encoding\351>' | tl text --strict
-  tl: -: no UTF-8 at byte 28; --encoding names the encoding (err)
+  tl: -: invalid UTF-8 at byte 28; --encoding names the encoding (err)
   [2]
   $ printf '<?xml \351>encoding' | tl text --strict
-  tl: -: no UTF-8 at byte 6; --encoding names the encoding (err)
+  tl: -: invalid UTF-8 at byte 6; --encoding names the encoding (err)
   [2]
   $ printf '<?xml \351>encoding=' | tl text --strict
-  tl: -: no UTF-8 at byte 6; --encoding names the encoding (err)
+  tl: -: invalid UTF-8 at byte 6; --encoding names the encoding (err)
   [2]
   $ printf '<?xml version=\0471.0\047 encoding=\047koi8-r\047?><meta charset=latin1>\351' | tl text
   é (no-eol)
   $ printf '<?xml version=\0471.0\047 encoding=\047koi8-r\047?><meta charset=utf-8>\351' | tl text --strict
-  tl: -: no UTF-8 at byte 59; --encoding names the encoding (err)
+  tl: -: invalid UTF-8 at byte 59; --encoding names the encoding (err)
   [2]
   $ printf '<?xml version=\0471.0\047 encoding=\047latin1\047?><meta charset=nope>\351' | tl text
   é (no-eol)
@@ -238,10 +238,10 @@ it is ASCII.
   $ printf '<meta charset=iso-2022-jp>\033(I1\033$' | tl text
   ｱ�､ (no-eol)
   $ printf 'a\201\377<meta charset=sjis>' | tl text --strict
-  tl: -: no character at byte 1; --encoding names the encoding (err)
+  tl: -: invalid byte sequence at byte 1; --encoding names the encoding (err)
   [2]
   $ printf '<meta charset=gb18030>\2010\201' | tl text --strict
-  tl: -: no character at byte 22; --encoding names the encoding (err)
+  tl: -: invalid byte sequence at byte 22; --encoding names the encoding (err)
   [2]
 
 Other encodings, and UTF-16, by its mark or its declaration.
@@ -255,7 +255,7 @@ Other encodings, and UTF-16, by its mark or its declaration.
   $ printf '\351<meta charset=koi8-u><meta charset=latin1>' | tl text
   И (no-eol)
   $ printf '\351<meta charset=utf-16be><meta charset=latin1>' | tl text --strict
-  tl: -: no UTF-8 at byte 0; --encoding names the encoding (err)
+  tl: -: invalid UTF-8 at byte 0; --encoding names the encoding (err)
   [2]
   $ printf '\351<meta http-equiv=content-type content="text/html; charset=iso-8859-2">' | tl text
   é (no-eol)
@@ -358,7 +358,7 @@ Bytes, and the text that they stand for.
   $ printf '\000\177\201\215\217\220\235\240\377' | tl text --encoding windows-1252
   \x7f\x81\x8d\x8f\x90\x9d\xa0ÿ (esc) (no-eol)
   $ printf 'caf\351' | tl text --strict --encoding utf-8
-  tl: -: no UTF-8 at byte 3 (err)
+  tl: -: invalid UTF-8 at byte 3 (err)
   [2]
   $ printf 'caf\351' | tl text --encoding utf-8
   caf� (no-eol)
@@ -478,38 +478,38 @@ Bytes that are wrong are read as U+FFFD: of UTF-8 each longest run that begins a
 With `--strict` a page with such bytes is refused, and what is wrong said by its place.
 
   $ tl links --strict wrong.html
-  tl: wrong.html: no UTF-8 at byte 8; --encoding names the encoding (err)
+  tl: wrong.html: invalid UTF-8 at byte 8; --encoding names the encoding (err)
   [2]
   $ tl table --strict wrong.html
-  tl: wrong.html: no UTF-8 at byte 8; --encoding names the encoding (err)
+  tl: wrong.html: invalid UTF-8 at byte 8; --encoding names the encoding (err)
   [2]
   $ tl outline --strict --encoding utf-8 wrong.html
-  tl: wrong.html: no UTF-8 at byte 8 (err)
+  tl: wrong.html: invalid UTF-8 at byte 8 (err)
   [2]
   $ printf 'a\252b' | tl text --strict --encoding windows-1253
-  tl: -: no character at byte 1 (err)
+  tl: -: invalid byte sequence at byte 1 (err)
   [2]
   $ printf '<meta charset=windows-1253>a\252b' | tl text --strict
-  tl: -: no character at byte 28; --encoding names the encoding (err)
+  tl: -: invalid byte sequence at byte 28; --encoding names the encoding (err)
   [2]
   $ printf '\376\377\000a\330\075\000a' | tl text --strict
-  tl: -: no character at byte 4; --encoding names the encoding (err)
+  tl: -: invalid byte sequence at byte 4; --encoding names the encoding (err)
   [2]
   $ printf '\376\377\000a\336\000\330\075' | tl text --strict
-  tl: -: no character at byte 4; --encoding names the encoding (err)
+  tl: -: invalid byte sequence at byte 4; --encoding names the encoding (err)
   [2]
   $ printf '\376\377\000a\330\075' | tl text --strict
-  tl: -: no character at byte 4; --encoding names the encoding (err)
+  tl: -: invalid byte sequence at byte 4; --encoding names the encoding (err)
   [2]
   $ printf '\376\377\000a\000' | tl text --strict
-  tl: -: no character at byte 4; --encoding names the encoding (err)
+  tl: -: invalid byte sequence at byte 4; --encoding names the encoding (err)
   [2]
   $ printf '\376\377\330\075\336\000\377\375' | tl text --strict
   😀� (no-eol)
   $ printf 'caf\351' | tl text --strict --encoding x-user-defined | od -An -tx1
    63 61 66 ef 9f a9
   $ printf 'a' | tl text --strict --encoding replacement
-  tl: -: no character at byte 0 (err)
+  tl: -: invalid byte sequence at byte 0 (err)
   [2]
   $ printf '' | tl text --strict --encoding replacement
   $ printf 'caf\303\251' | tl text --strict
@@ -601,17 +601,17 @@ as the same tree by it. A page with bytes that are wrong isn't changed.
   tl: -: invalid bytes would be read otherwise after this edit; tl text --strict says where (err)
   [2]
   $ printf '<p>\377\364\217\277\277' | tl set p k v
-  tl: -: no UTF-8 at byte 3; --encoding names the encoding (err)
+  tl: -: invalid UTF-8 at byte 3; --encoding names the encoding (err)
   [2]
   $ printf '<p>\377<p>\376' > wrong.html
   $ tl set -i p k v wrong.html
   $ LC_ALL=C sed -n l wrong.html
   <p k="v">\377<p k="v">\376$
   $ printf '<meta charset=windows-1253><p>\252' | tl set p k v
-  tl: -: no character at byte 30; --encoding names the encoding (err)
+  tl: -: invalid byte sequence at byte 30; --encoding names the encoding (err)
   [2]
   $ printf '\376\377\000<\000p\000>\330\075' | tl set p k v
-  tl: -: no character at byte 8; --encoding names the encoding (err)
+  tl: -: invalid byte sequence at byte 8; --encoding names the encoding (err)
   [2]
   $ printf '<p>a' | tl set --strict p k v
   error: unexpected argument '--strict' found (err)

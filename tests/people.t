@@ -274,7 +274,7 @@ Encodings.
   $ printf '<meta http-equiv=Content-Type content="text/html; charset=windows-1252"><p>caf\351' >http.html
   $ printf '\357\273\277<p>caf\303\251' >mark.html
   $ tl text --strict latin1.html
-  tl: latin1.html: no UTF-8 at byte 6; --encoding names the encoding (err)
+  tl: latin1.html: invalid UTF-8 at byte 6; --encoding names the encoding (err)
   [2]
   $ tl text latin1.html
   caf� � (no-eol)
@@ -295,12 +295,12 @@ Encodings.
   $ printf '<a href=\351><table><tr><td>\200' | tl table --encoding latin1
   €
   $ tl text --strict --encoding utf-8 latin1.html
-  tl: latin1.html: no UTF-8 at byte 6 (err)
+  tl: latin1.html: invalid UTF-8 at byte 6 (err)
   [2]
   $ tl text meta.html
   café € (no-eol)
   $ tl text --strict --encoding utf8 meta.html
-  tl: meta.html: no UTF-8 at byte 48 (err)
+  tl: meta.html: invalid UTF-8 at byte 48 (err)
   [2]
   $ tl text http.html
   café (no-eol)
@@ -309,7 +309,7 @@ Encodings.
   $ tl select --strict -t p meta.html latin1.html mark.html
   meta.html:café €
   mark.html:café
-  tl: latin1.html: no UTF-8 at byte 6; --encoding names the encoding (err)
+  tl: latin1.html: invalid UTF-8 at byte 6; --encoding names the encoding (err)
   [2]
   $ printf '<p>caf\303\251<meta charset=latin1>' | tl text
   cafÃ© (no-eol)
@@ -326,15 +326,15 @@ Encodings.
   $ printf '<meta name=description content="charset=koi8-r"><meta charset=latin1><p>caf\351' | tl text
   café (no-eol)
   $ printf '<meta charset=""><p>\351' | tl text --strict
-  tl: -: no UTF-8 at byte 20; --encoding names the encoding (err)
+  tl: -: invalid UTF-8 at byte 20; --encoding names the encoding (err)
   [2]
   $ printf '<meta charset=" gbk "><p>\312\324' | tl text
   试 (no-eol)
   $ printf '<meta charset=utf-8><p>\203' | tl text --strict
-  tl: -: no UTF-8 at byte 23; --encoding names the encoding (err)
+  tl: -: invalid UTF-8 at byte 23; --encoding names the encoding (err)
   [2]
   $ (head -c 1024 /dev/zero | tr '\0' a; printf '<meta charset=latin1>\351') | tl text --strict | tail -c 3
-  tl: -: no UTF-8 at byte 1045; --encoding names the encoding (err)
+  tl: -: invalid UTF-8 at byte 1045; --encoding names the encoding (err)
   $ printf '<?xml version="1.0" encoding="iso-8859-1"?><p>caf\351' | tl text
   café (no-eol)
   $ printf '<?xml version="1.0" encoding="koi8-r"?><meta charset=latin1><p>caf\351' | tl text
@@ -344,10 +344,10 @@ Encodings.
   $ printf '<?xml version="1.0" encoding="gbk"?><p>\312\324' | tl text
   试 (no-eol)
   $ printf '<?xml version="1.0" encoding=latin1?><p>\351' | tl text --strict
-  tl: -: no UTF-8 at byte 40; --encoding names the encoding (err)
+  tl: -: invalid UTF-8 at byte 40; --encoding names the encoding (err)
   [2]
   $ (printf '<?xml '; head -c 1024 /dev/zero | tr '\0' a; printf ' encoding="latin1"?>\351') | tl text --strict | tail -c 3
-  tl: -: no UTF-8 at byte 1050; --encoding names the encoding (err)
+  tl: -: invalid UTF-8 at byte 1050; --encoding names the encoding (err)
   $ printf '<\0?\0x\0m\0l\0>\0\351\0' | tl text
   é (no-eol)
   $ printf '\0<\0?\0x\0m\0l\0>\0\351' | tl text

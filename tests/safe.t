@@ -606,139 +606,139 @@ More tags in one another than may be open.
 Lists with one word that is refused, before a page is looked at.
 
   $ tl sanitize --tags p,P none
-  tl: no policy may list the tag `P`: a name is a letter of a-z, and then letters and digits (err)
+  tl: invalid tag name `P`: expected a letter a-z, then letters and digits (err)
   [2]
   $ tl sanitize --tags p,style none
-  tl: no policy may list the tag `style`: what stands in it is no markup of HTML (err)
+  tl: a policy can't allow the element `style`: its content isn't HTML markup (err)
   [2]
   $ tl sanitize --tags form none
-  tl: no policy may list the tag `form`: it changes what is around it, or loads what is no page (err)
+  tl: a policy can't allow the element `form`: it affects the page around it, or loads other content (err)
   [2]
   $ tl sanitize --keys data_x none
-  tl: no policy may list the key `data_x`: a key is a letter of a-z, and then letters and `-` (err)
+  tl: invalid attribute name `data_x`: expected a letter a-z, then letters and `-` (err)
   [2]
   $ tl sanitize --keys title,onclick none
-  tl: no policy may list the key `onclick`: its value is a script (err)
+  tl: a policy can't allow the attribute `onclick`: its value is a script (err)
   [2]
   $ tl sanitize --keys style none
-  tl: no policy may list the key `style`: its value is no name, text or link (err)
+  tl: a policy can't allow the attribute `style`: its value isn't a name, text or URL (err)
   [2]
   $ tl sanitize --keys attributionsrc none
-  tl: no policy may list the key `attributionsrc`: its value is no name, text or link (err)
+  tl: a policy can't allow the attribute `attributionsrc`: its value isn't a name, text or URL (err)
   [2]
   $ tl sanitize --keys poster none
-  tl: no policy may list the key `poster`: it holds links, and is no link key (err)
+  tl: a policy can't allow the attribute `poster`: its value is a URL, so it has to be a link attribute too (err)
   [2]
   $ tl sanitize --links '/,/a b' none
-  tl: no policy may let links begin with `/a b`: a link begins with printable ASCII without spaces, `"`, `<` and `>` (err)
+  tl: invalid link prefix `/a b`: expected printable ASCII without spaces, `"`, `<` and `>` (err)
   [2]
   $ tl sanitize --links '#,#<' none
-  tl: no policy may let links begin with `#<`: a link begins with printable ASCII without spaces, `"`, `<` and `>` (err)
+  tl: invalid link prefix `#<`: expected printable ASCII without spaces, `"`, `<` and `>` (err)
   [2]
   $ tl sanitize --links data: none
-  tl: no policy may let links begin with `data:`: such links are programs or documents (err)
+  tl: a policy can't allow links that begin with `data:`: such URLs are programs or documents (err)
   [2]
   $ tl sanitize --links java none
-  tl: no policy may let links begin with `java`: it is no scheme with its `:`, and no `/`, `#`, `?` or `.` stands first (err)
+  tl: invalid link prefix `java`: expected a scheme with its `:`, or `/`, `#`, `?` or `.` first (err)
   [2]
   $ tl sanitize --classes 'a b' none
-  tl: no pattern of classes: `a b`: a pattern is a word without spaces and `"`, and a `*` stands at its end alone (err)
+  tl: invalid class pattern `a b`: expected no spaces and no `"`, and `*` only at the end (err)
   [2]
   $ tl sanitize --classes '*,a*,a**' none
-  tl: no pattern of classes: `a**`: a pattern is a word without spaces and `"`, and a `*` stands at its end alone (err)
+  tl: invalid class pattern `a**`: expected no spaces and no `"`, and `*` only at the end (err)
   [2]
   $ tl sanitize --prefix 1 none
-  tl: no prefix of names: `1`: a prefix is a letter of a-z, and then letters and `-` (err)
+  tl: invalid prefix `1`: expected a letter a-z, then letters and `-` (err)
   [2]
   $ tl sanitize --prefix '' none
-  tl: no prefix of names: ``: a prefix is a letter of a-z, and then letters and `-` (err)
+  tl: invalid prefix ``: expected a letter a-z, then letters and `-` (err)
   [2]
   $ tl sanitize --keys href,rel --link-keys href,rel --nofollow-links none
-  tl: no policy may mark links at `rel`: it is no listed key, or a link key (err)
+  tl: a policy can't mark links with the attribute `rel`: it isn't allowed, or is a link attribute (err)
   [2]
   $ tl sanitize --tags table,tr,td none
-  tl: no policy may list the tag `table`: `tbody`, `thead` or `tfoot` is missing, so rows lose their texts (err)
+  tl: a policy can't allow the element `table`: `tbody`, `thead` or `tfoot` has to be allowed too, or rows lose their text (err)
   [2]
   $ tl sanitize --tags table,tbody,tfoot,thead,td,th none
-  tl: no policy may list the tag `table`: `tr` is missing, so rows lose their texts (err)
+  tl: a policy can't allow the element `table`: `tr` has to be allowed too, or rows lose their text (err)
   [2]
   $ tl sanitize --tags table,tbody,tfoot,thead,td,tr none
-  tl: no policy may list the tag `table`: `td` or `th` is missing, so cells lose their texts (err)
+  tl: a policy can't allow the element `table`: `td` or `th` has to be allowed too, or cells lose their text (err)
   [2]
   $ tl sanitize --tags table,tbody,tfoot,thead,td,th,tr none
-  tl: no policy may list the tag `table`: `caption` is missing, so captions lose their texts (err)
+  tl: a policy can't allow the element `table`: `caption` has to be allowed too, or captions lose their text (err)
   [2]
   $ tl sanitize --tags p,td none
-  tl: no policy may list the tag `td`: `table` is missing, in which alone it may stand (err)
+  tl: a policy can't allow the element `td`: `table` has to be allowed too, as it belongs in one (err)
   [2]
 
 Several are, and the first of them is named.
 
   $ tl sanitize --tags script,style none
-  tl: no policy may list the tag `script`: what stands in it is no markup of HTML (err)
+  tl: a policy can't allow the element `script`: its content isn't HTML markup (err)
   [2]
   $ tl sanitize --tags script --keys onclick none
-  tl: no policy may list the tag `script`: what stands in it is no markup of HTML (err)
+  tl: a policy can't allow the element `script`: its content isn't HTML markup (err)
   [2]
   $ tl sanitize --keys onclick --links java none
-  tl: no policy may list the key `onclick`: its value is a script (err)
+  tl: a policy can't allow the attribute `onclick`: its value is a script (err)
   [2]
   $ tl sanitize --classes '*a' --links java none
-  tl: no policy may let links begin with `java`: it is no scheme with its `:`, and no `/`, `#`, `?` or `.` stands first (err)
+  tl: invalid link prefix `java`: expected a scheme with its `:`, or `/`, `#`, `?` or `.` first (err)
   [2]
   $ tl sanitize --prefix 1 --classes '*a' none
-  tl: no pattern of classes: `*a`: a pattern is a word without spaces and `"`, and a `*` stands at its end alone (err)
+  tl: invalid class pattern `*a`: expected no spaces and no `"`, and `*` only at the end (err)
   [2]
   $ tl sanitize --links java --prefix 1 none
-  tl: no policy may let links begin with `java`: it is no scheme with its `:`, and no `/`, `#`, `?` or `.` stands first (err)
+  tl: invalid link prefix `java`: expected a scheme with its `:`, or `/`, `#`, `?` or `.` first (err)
   [2]
   $ tl sanitize --tags script --prefix 1 none
-  tl: no policy may list the tag `script`: what stands in it is no markup of HTML (err)
+  tl: a policy can't allow the element `script`: its content isn't HTML markup (err)
   [2]
   $ tl sanitize --prefix 1 --keys alt,cite,class,datetime,dir,height,href,id,lang,src,start,title,width --nofollow-links none
-  tl: no prefix of names: `1`: a prefix is a letter of a-z, and then letters and `-` (err)
+  tl: invalid prefix `1`: expected a letter a-z, then letters and `-` (err)
   [2]
 
 What is said of each reason.
 
   $ tl sanitize --tags B none
-  tl: no policy may list the tag `B`: a name is a letter of a-z, and then letters and digits (err)
+  tl: invalid tag name `B`: expected a letter a-z, then letters and digits (err)
   [2]
   $ tl sanitize --tags svg none
-  tl: no policy may list the tag `svg`: what stands in it is no markup of HTML (err)
+  tl: a policy can't allow the element `svg`: its content isn't HTML markup (err)
   [2]
   $ tl sanitize --tags form none
-  tl: no policy may list the tag `form`: it changes what is around it, or loads what is no page (err)
+  tl: a policy can't allow the element `form`: it affects the page around it, or loads other content (err)
   [2]
   $ tl sanitize --keys 1 none
-  tl: no policy may list the key `1`: a key is a letter of a-z, and then letters and `-` (err)
+  tl: invalid attribute name `1`: expected a letter a-z, then letters and `-` (err)
   [2]
   $ tl sanitize --keys onclick none
-  tl: no policy may list the key `onclick`: its value is a script (err)
+  tl: a policy can't allow the attribute `onclick`: its value is a script (err)
   [2]
   $ tl sanitize --keys style none
-  tl: no policy may list the key `style`: its value is no name, text or link (err)
+  tl: a policy can't allow the attribute `style`: its value isn't a name, text or URL (err)
   [2]
   $ tl sanitize --keys poster none
-  tl: no policy may list the key `poster`: it holds links, and is no link key (err)
+  tl: a policy can't allow the attribute `poster`: its value is a URL, so it has to be a link attribute too (err)
   [2]
   $ tl sanitize --links 'a b' none
-  tl: no policy may let links begin with `a b`: a link begins with printable ASCII without spaces, `"`, `<` and `>` (err)
+  tl: invalid link prefix `a b`: expected printable ASCII without spaces, `"`, `<` and `>` (err)
   [2]
   $ tl sanitize --links data: none
-  tl: no policy may let links begin with `data:`: such links are programs or documents (err)
+  tl: a policy can't allow links that begin with `data:`: such URLs are programs or documents (err)
   [2]
   $ tl sanitize --links http none
-  tl: no policy may let links begin with `http`: it is no scheme with its `:`, and no `/`, `#`, `?` or `.` stands first (err)
+  tl: invalid link prefix `http`: expected a scheme with its `:`, or `/`, `#`, `?` or `.` first (err)
   [2]
   $ tl sanitize --classes 'a b' none
-  tl: no pattern of classes: `a b`: a pattern is a word without spaces and `"`, and a `*` stands at its end alone (err)
+  tl: invalid class pattern `a b`: expected no spaces and no `"`, and `*` only at the end (err)
   [2]
   $ tl sanitize --prefix 1 none
-  tl: no prefix of names: `1`: a prefix is a letter of a-z, and then letters and `-` (err)
+  tl: invalid prefix `1`: expected a letter a-z, then letters and `-` (err)
   [2]
   $ tl sanitize --link-keys cite,href,rel,src --nofollow-links none
-  tl: no policy may mark links at `rel`: it is no listed key, or a link key (err)
+  tl: a policy can't mark links with the attribute `rel`: it isn't allowed, or is a link attribute (err)
   [2]
 
 What goes is told on standard error by `--removed`, each with the place of its start tag and why; what is printed stays as it is. Nothing is told of what is in an element that goes whole, nor of one that nobody wrote.

@@ -501,82 +501,82 @@ By what names and values say, in pages that are read as browsers read them.
 What is said of texts that are no selectors: each cause, and each thing to write in its place.
 
   $ tl select '[k' none
-  tl: invalid selector: at byte 0: this is opened and never closed: `[` (err)
+  tl: invalid selector: at byte 0: opened here and never closed: `[` (err)
     [k (err)
     ^ (err)
   [2]
   $ tl select 'a > ' none
-  tl: invalid selector: at byte 4: a selector is missing (err)
+  tl: invalid selector: at byte 4: expected a selector (err)
     a >\x20 (esc) (err)
         ^ (err)
   [2]
   $ tl select a..b none
-  tl: invalid selector: at byte 2: a name is missing: `.` (it may stand in quotes in a value, and behind `\` in a name) (err)
+  tl: invalid selector: at byte 2: expected a name, found `.` (put a value in quotes; in a name write `\` before it) (err)
     a..b (err)
       ^ (err)
   [2]
   $ tl select '[k~v]' none
-  tl: invalid selector: at byte 2: `=`, `~=`, `|=`, `^=`, `$=`, `*=` or `]` is missing: `~` (err)
+  tl: invalid selector: at byte 2: expected `=`, `~=`, `|=`, `^=`, `$=`, `*=` or `]`, found `~` (err)
     [k~v] (err)
       ^ (err)
   [2]
   $ tl select '[k==v]' none
-  tl: invalid selector: at byte 3: a value is missing: `=` (a value that is no name stands in quotes) (err)
+  tl: invalid selector: at byte 3: expected a value, found `=` (put the value in quotes) (err)
     [k==v] (err)
        ^ (err)
   [2]
   $ tl select '[k= ]' none
-  tl: invalid selector: at byte 4: a value is missing: `]` (err)
+  tl: invalid selector: at byte 4: expected a value, found `]` (err)
     [k= ] (err)
         ^ (err)
   [2]
   $ tl select '[k=' none
-  tl: invalid selector: at byte 0: this is opened and never closed: `[` (err)
+  tl: invalid selector: at byte 0: opened here and never closed: `[` (err)
     [k= (err)
     ^ (err)
   [2]
   $ tl select '[k=v is]' none
-  tl: invalid selector: at byte 5: the only flags are `i` and `s`: `is` (err)
+  tl: invalid selector: at byte 5: expected the flag `i` or `s`, found `is` (err)
     [k=v is] (err)
          ^ (err)
   [2]
   $ tl select ':nth-child(a)' none
-  tl: invalid selector: at byte 11: this is no formula such as `2n+1`, `odd` or `3`: `a` (err)
+  tl: invalid selector: at byte 11: expected `an+b`, `odd` or `even`, found `a` (err)
     :nth-child(a) (err)
                ^ (err)
   [2]
   $ tl select ':nth-child(2147483648)' none
-  tl: invalid selector: at byte 11: the number is above 2147483647: `2147483648` (err)
+  tl: invalid selector: at byte 11: number above 2147483647: `2147483648` (err)
     :nth-child(2147483648) (err)
                ^ (err)
   [2]
   $ tl select :first-childs none
-  tl: invalid selector: at byte 1: no such pseudo-class: `first-childs` (a colon in a name is written `\:`) (err)
+  tl: invalid selector: at byte 1: unknown pseudo-class: `first-childs` (write `\:` for a colon in a name) (err)
     :first-childs (err)
      ^ (err)
   [2]
   $ tl select :first-child-whose-name-goes-on-for-more-than-forty-bytes-é none
-  tl: invalid selector: at byte 1: no such pseudo-class: `first-child-whose-name-goes-on-for-more-than-forty-bytes-é` (a colon in a name is written `\:`) (err)
+  tl: invalid selector: at byte 1: unknown pseudo-class: `first-child-whose-name-goes-on-for-more-than-forty-bytes-é` (write `\:` for a colon in a name) (err)
     :first-child-whose-name-goes-on-for-more-than-forty-bytes-é (err)
      ^ (err)
   [2]
   $ tl select ::before none
-  tl: invalid selector: at byte 0: a pseudo-element is no tag: `:` (err)
+  tl: invalid selector: at byte 0: pseudo-elements match no element: `:` (err)
     ::before (err)
     ^ (err)
   [2]
   $ tl select '[svg|href]' none
-  tl: invalid selector: at byte 4: no prefix of a namespace is known here: `|` (a bar in a name is written `\|`) (err)
+  tl: invalid selector: at byte 4: unknown namespace prefix: `|` (write `\|` for a bar in a name) (err)
     [svg|href] (err)
         ^ (err)
   [2]
   $ tl select :not none
-  tl: invalid selector: at byte 4: an argument in brackets is missing (err)
+  tl: invalid selector: at byte 4: expected an argument in parentheses (err)
     :not (err)
         ^ (err)
   [2]
   $ tl select ':not b' none
-  tl: invalid selector: at byte 4: an argument in brackets is missing: ` ` (err)
+  tl: invalid selector: at byte 4: expected an argument in parentheses, found ` ` (err)
     :not b (err)
         ^ (err)
   [2]
@@ -586,185 +586,185 @@ What is said of texts that are no selectors: each cause, and each thing to write
          ^ (err)
   [2]
   $ tl select 'a*' none
-  tl: invalid selector: at byte 1: this can't stand here: `*` (err)
+  tl: invalid selector: at byte 1: unexpected text: `*` (err)
     a* (err)
      ^ (err)
   [2]
   $ tl select 'a é %' none
-  tl: invalid selector: at byte 5: this can't stand here: `%` (it may stand in quotes in a value, and behind `\` in a name) (err)
+  tl: invalid selector: at byte 5: unexpected text: `%` (put a value in quotes; in a name write `\` before it) (err)
     a é % (err)
         ^ (err)
   [2]
   $ tl select '[k=v é]' none
-  tl: invalid selector: at byte 5: the only flags are `i` and `s`: `é` (err)
+  tl: invalid selector: at byte 5: expected the flag `i` or `s`, found `é` (err)
     [k=v é] (err)
          ^ (err)
   [2]
   $ tl select :active none
-  tl: invalid selector: at byte 1: no such pseudo-class: `active` (a page has no states) (err)
+  tl: invalid selector: at byte 1: unknown pseudo-class: `active` (a parsed page has no such state) (err)
     :active (err)
      ^ (err)
   [2]
   $ tl select :focus none
-  tl: invalid selector: at byte 1: no such pseudo-class: `focus` (a page has no states) (err)
+  tl: invalid selector: at byte 1: unknown pseudo-class: `focus` (a parsed page has no such state) (err)
     :focus (err)
      ^ (err)
   [2]
   $ tl select :focus-visible none
-  tl: invalid selector: at byte 1: no such pseudo-class: `focus-visible` (a page has no states) (err)
+  tl: invalid selector: at byte 1: unknown pseudo-class: `focus-visible` (a parsed page has no such state) (err)
     :focus-visible (err)
      ^ (err)
   [2]
   $ tl select :FOCUS-WITHIN none
-  tl: invalid selector: at byte 1: no such pseudo-class: `FOCUS-WITHIN` (a page has no states) (err)
+  tl: invalid selector: at byte 1: unknown pseudo-class: `FOCUS-WITHIN` (a parsed page has no such state) (err)
     :FOCUS-WITHIN (err)
      ^ (err)
   [2]
   $ tl select :target none
-  tl: invalid selector: at byte 1: no such pseudo-class: `target` (a page has no states) (err)
+  tl: invalid selector: at byte 1: unknown pseudo-class: `target` (a parsed page has no such state) (err)
     :target (err)
      ^ (err)
   [2]
   $ tl select :visited none
-  tl: invalid selector: at byte 1: no such pseudo-class: `visited` (a page has no states) (err)
+  tl: invalid selector: at byte 1: unknown pseudo-class: `visited` (a parsed page has no such state) (err)
     :visited (err)
      ^ (err)
   [2]
   $ tl select :any-link none
-  tl: invalid selector: at byte 1: no such pseudo-class: `any-link` (write `[href]`) (err)
+  tl: invalid selector: at byte 1: unknown pseudo-class: `any-link` (write `[href]`) (err)
     :any-link (err)
      ^ (err)
   [2]
   $ tl select :checked none
-  tl: invalid selector: at byte 1: no such pseudo-class: `checked` (write `[checked]`) (err)
+  tl: invalid selector: at byte 1: unknown pseudo-class: `checked` (write `[checked]`) (err)
     :checked (err)
      ^ (err)
   [2]
   $ tl select :disabled none
-  tl: invalid selector: at byte 1: no such pseudo-class: `disabled` (write `[disabled]`) (err)
+  tl: invalid selector: at byte 1: unknown pseudo-class: `disabled` (write `[disabled]`) (err)
     :disabled (err)
      ^ (err)
   [2]
   $ tl select :enabled none
-  tl: invalid selector: at byte 1: no such pseudo-class: `enabled` (write `:not([disabled])`) (err)
+  tl: invalid selector: at byte 1: unknown pseudo-class: `enabled` (write `:not([disabled])`) (err)
     :enabled (err)
      ^ (err)
   [2]
   $ tl select :required none
-  tl: invalid selector: at byte 1: no such pseudo-class: `required` (write `[required]`) (err)
+  tl: invalid selector: at byte 1: unknown pseudo-class: `required` (write `[required]`) (err)
     :required (err)
      ^ (err)
   [2]
   $ tl select ':contains(x)' none
-  tl: invalid selector: at byte 1: no such pseudo-class: `contains` (there is no test of texts) (err)
+  tl: invalid selector: at byte 1: unknown pseudo-class: `contains` (elements can't be matched by their text) (err)
     :contains(x) (err)
      ^ (err)
   [2]
   $ tl select 'a$' none
-  tl: invalid selector: at byte 1: this can't stand here: `$` (it may stand in quotes in a value, and behind `\` in a name) (err)
+  tl: invalid selector: at byte 1: unexpected text: `$` (put a value in quotes; in a name write `\` before it) (err)
     a$ (err)
      ^ (err)
   [2]
   $ tl select a% none
-  tl: invalid selector: at byte 1: this can't stand here: `%` (it may stand in quotes in a value, and behind `\` in a name) (err)
+  tl: invalid selector: at byte 1: unexpected text: `%` (put a value in quotes; in a name write `\` before it) (err)
     a% (err)
      ^ (err)
   [2]
   $ tl select a/b none
-  tl: invalid selector: at byte 1: this can't stand here: `/` (it may stand in quotes in a value, and behind `\` in a name) (err)
+  tl: invalid selector: at byte 1: unexpected text: `/` (put a value in quotes; in a name write `\` before it) (err)
     a/b (err)
      ^ (err)
   [2]
   $ tl select 'a?' none
-  tl: invalid selector: at byte 1: this can't stand here: `?` (it may stand in quotes in a value, and behind `\` in a name) (err)
+  tl: invalid selector: at byte 1: unexpected text: `?` (put a value in quotes; in a name write `\` before it) (err)
     a? (err)
      ^ (err)
   [2]
   $ tl select 'a;' none
-  tl: invalid selector: at byte 1: this can't stand here: `;` (it may stand in quotes in a value, and behind `\` in a name) (err)
+  tl: invalid selector: at byte 1: unexpected text: `;` (put a value in quotes; in a name write `\` before it) (err)
     a; (err)
      ^ (err)
   [2]
   $ tl select '{' none
-  tl: invalid selector: at byte 0: this can't stand here: `{` (it may stand in quotes in a value, and behind `\` in a name) (err)
+  tl: invalid selector: at byte 0: unexpected text: `{` (put a value in quotes; in a name write `\` before it) (err)
     { (err)
     ^ (err)
   [2]
   $ tl select '}' none
-  tl: invalid selector: at byte 0: this can't stand here: `}` (it may stand in quotes in a value, and behind `\` in a name) (err)
+  tl: invalid selector: at byte 0: unexpected text: `}` (put a value in quotes; in a name write `\` before it) (err)
     } (err)
     ^ (err)
   [2]
   $ tl select a:hover none
-  tl: invalid selector: at byte 2: no such pseudo-class: `hover` (a page has no states) (err)
+  tl: invalid selector: at byte 2: unknown pseudo-class: `hover` (a parsed page has no such state) (err)
     a:hover (err)
       ^ (err)
   [2]
   $ tl select a:Link none
-  tl: invalid selector: at byte 2: no such pseudo-class: `Link` (write `[href]`) (err)
+  tl: invalid selector: at byte 2: unknown pseudo-class: `Link` (write `[href]`) (err)
     a:Link (err)
       ^ (err)
   [2]
   $ tl select fb:like none
-  tl: invalid selector: at byte 3: no such pseudo-class: `like` (a colon in a name is written `\:`) (err)
+  tl: invalid selector: at byte 3: unknown pseudo-class: `like` (write `\:` for a colon in a name) (err)
     fb:like (err)
        ^ (err)
   [2]
   $ tl select '[k=v x]' none
-  tl: invalid selector: at byte 5: the only flags are `i` and `s`: `x` (err)
+  tl: invalid selector: at byte 5: expected the flag `i` or `s`, found `x` (err)
     [k=v x] (err)
          ^ (err)
   [2]
   $ tl select 'a!' none
-  tl: invalid selector: at byte 1: this can't stand here: `!` (it may stand in quotes in a value, and behind `\` in a name) (err)
+  tl: invalid selector: at byte 1: unexpected text: `!` (put a value in quotes; in a name write `\` before it) (err)
     a! (err)
      ^ (err)
   [2]
   $ tl select '[@click]' none
-  tl: invalid selector: at byte 1: a name is missing: `@` (it may stand in quotes in a value, and behind `\` in a name) (err)
+  tl: invalid selector: at byte 1: expected a name, found `@` (put a value in quotes; in a name write `\` before it) (err)
     [@click] (err)
      ^ (err)
   [2]
   $ tl select '[src=a.png]' none
-  tl: invalid selector: at byte 6: this can't stand here: `.` (it may stand in quotes in a value, and behind `\` in a name) (err)
+  tl: invalid selector: at byte 6: unexpected text: `.` (put a value in quotes; in a name write `\` before it) (err)
     [src=a.png] (err)
           ^ (err)
   [2]
   $ tl select '[src$=.png]' none
-  tl: invalid selector: at byte 6: a value is missing: `.` (a value that is no name stands in quotes) (err)
+  tl: invalid selector: at byte 6: expected a value, found `.` (put the value in quotes) (err)
     [src$=.png] (err)
           ^ (err)
   [2]
   $ tl select '[k=]' none
-  tl: invalid selector: at byte 3: a value is missing: `]` (err)
+  tl: invalid selector: at byte 3: expected a value, found `]` (err)
     [k=] (err)
        ^ (err)
   [2]
   $ tl select '[k!=v]' none
-  tl: invalid selector: at byte 2: `=`, `~=`, `|=`, `^=`, `$=`, `*=` or `]` is missing: `!` (write `:not([key=value])`) (err)
+  tl: invalid selector: at byte 2: expected `=`, `~=`, `|=`, `^=`, `$=`, `*=` or `]`, found `!` (write `:not([key=value])`) (err)
     [k!=v] (err)
       ^ (err)
   [2]
   $ tl select 'svg|a' none
-  tl: invalid selector: at byte 3: no prefix of a namespace is known here: `|` (a bar in a name is written `\|`) (err)
+  tl: invalid selector: at byte 3: unknown namespace prefix: `|` (write `\|` for a bar in a name) (err)
     svg|a (err)
        ^ (err)
   [2]
   $ tl select p::before none
-  tl: invalid selector: at byte 1: a pseudo-element is no tag: `:` (err)
+  tl: invalid selector: at byte 1: pseudo-elements match no element: `:` (err)
     p::before (err)
      ^ (err)
   [2]
   $ tl select a, none
-  tl: invalid selector: at byte 2: a selector is missing (err)
+  tl: invalid selector: at byte 2: expected a selector (err)
     a, (err)
       ^ (err)
   [2]
   $ tl select 'a:not(b' none
-  tl: invalid selector: at byte 5: this is opened and never closed: `(` (err)
+  tl: invalid selector: at byte 5: opened here and never closed: `(` (err)
     a:not(b (err)
          ^ (err)
   [2]
   $ tl select "$(python3 -c 'print("a:is(" * 59)')" none
-  tl: invalid selector: at byte 291: too many selectors inside one another: `:` (err)
+  tl: invalid selector: at byte 291: selectors nested too deeply: `:` (err)
   [2]

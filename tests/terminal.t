@@ -119,4 +119,4 @@ What is said of a page takes its place, whatever that is.
   7
   [Ktl: file 1 of 104
   8
-  [Ktl: bytes: no UTF-8 at byte 0; --encoding names the encoding
+  [Ktl: bytes: invalid UTF-8 at byte 0; --encoding names the encoding

@@ -257,35 +257,35 @@ Of each page the first nodes alone; whether there are some; the files that have 
 What is wrong with one is said once, before a file is read.
 
   $ tl select 'p:hover' none none
-  tl: invalid selector: at byte 2: no such pseudo-class: `hover` (a page has no states) (err)
+  tl: invalid selector: at byte 2: unknown pseudo-class: `hover` (a parsed page has no such state) (err)
     p:hover (err)
       ^ (err)
   [2]
   $ tl select --json 'img[src$=.png]' shelf page
-  tl: invalid selector: at byte 9: a value is missing: `.` (a value that is no name stands in quotes) (err)
+  tl: invalid selector: at byte 9: expected a value, found `.` (put the value in quotes) (err)
     img[src$=.png] (err)
              ^ (err)
   [2]
   $ tl select '' <page
-  tl: invalid selector: at byte 0: a selector is missing (err)
+  tl: invalid selector: at byte 0: expected a selector (err)
   [2]
   $ tl select -c ,p <page
-  tl: invalid selector: at byte 0: a selector is missing: `,` (err)
+  tl: invalid selector: at byte 0: expected a selector, found `,` (err)
     ,p (err)
     ^ (err)
   [2]
   $ tl select -1 'li:not(p' shelf
-  tl: invalid selector: at byte 6: this is opened and never closed: `(` (err)
+  tl: invalid selector: at byte 6: opened here and never closed: `(` (err)
     li:not(p (err)
           ^ (err)
   [2]
   $ tl select ':nth-child(2147483648)' shelf
-  tl: invalid selector: at byte 11: the number is above 2147483647: `2147483648` (err)
+  tl: invalid selector: at byte 11: number above 2147483647: `2147483648` (err)
     :nth-child(2147483648) (err)
                ^ (err)
   [2]
   $ tl select -n '[@click]' shelf
-  tl: invalid selector: at byte 1: a name is missing: `@` (it may stand in quotes in a value, and behind `\` in a name) (err)
+  tl: invalid selector: at byte 1: expected a name, found `@` (put a value in quotes; in a name write `\` before it) (err)
     [@click] (err)
      ^ (err)
   [2]
@@ -361,12 +361,12 @@ The text inside of nodes.
   $ tl text --in nav articles
   [1]
   $ tl text --in nav: none
-  tl: invalid selector: at byte 4: a name is missing (err)
+  tl: invalid selector: at byte 4: expected a name (err)
     nav: (err)
         ^ (err)
   [2]
   $ tl text --in '' articles
-  tl: invalid selector: at byte 0: a selector is missing (err)
+  tl: invalid selector: at byte 0: expected a selector (err)
   [2]
   $ tl text -w --in article articles page
   articles:a
@@ -411,7 +411,7 @@ Texts without what is in some elements.
   articles:b
   articles:d
   $ tl text -w --not nav: none
-  tl: invalid selector: at byte 4: a name is missing (err)
+  tl: invalid selector: at byte 4: expected a name (err)
     nav: (err)
         ^ (err)
   [2]
@@ -481,10 +481,10 @@ Nothing was found, or something is refused or not understood.
   []
   [1]
   $ printf '\377' | tl print --strict
-  tl: -: no UTF-8 at byte 0; --encoding names the encoding (err)
+  tl: -: invalid UTF-8 at byte 0; --encoding names the encoding (err)
   [2]
   $ printf '\377' | tl select --strict p
-  tl: -: no UTF-8 at byte 0; --encoding names the encoding (err)
+  tl: -: invalid UTF-8 at byte 0; --encoding names the encoding (err)
   [2]
   $ tl 2>said; echo $?; head -1 said
   2
@@ -535,7 +535,7 @@ Nothing was found, or something is refused or not understood.
   ...
   [2]
   $ tl print "$(printf '\377')"
-  tl: words: no UTF-8 (err)
+  tl: words: invalid UTF-8 (err)
   [2]
   $ tl print <.
   tl: -: Is a directory (os error 21) (err)
@@ -547,7 +547,7 @@ Nothing was found, or something is refused or not understood.
   tl: folder: is a directory; folder/*.html names the pages in it (err)
   [4]
   $ tl print one "$(printf 'caf\351')"
-  tl: words: no UTF-8 (err)
+  tl: words: invalid UTF-8 (err)
   [2]
 
 Pages in files.
@@ -745,7 +745,7 @@ Their lists.
   --classes language-*
   --prefix user-
   $ tl sanitize --policy --tags script
-  tl: no policy may list the tag `script`: what stands in it is no markup of HTML (err)
+  tl: a policy can't allow the element `script`: its content isn't HTML markup (err)
   [2]
   $ tl sanitize --policy --tags p --keys title --link-keys cite --links /x --classes +hljs --prefix z-
   --tags p
@@ -818,49 +818,49 @@ Policies for other pages, and links beside the page.
   --classes
   --prefix user-
   $ tl sanitize --nofollow-links --keys rel,href --link-keys href,rel
-  tl: no policy may mark links at `rel`: it is no listed key, or a link key (err)
+  tl: a policy can't mark links with the attribute `rel`: it isn't allowed, or is a link attribute (err)
   [2]
 
 Words that no policy may list: the first one is named, and no page is made safe.
 
   $ tl sanitize --tags b,script,form a.html
-  tl: no policy may list the tag `script`: what stands in it is no markup of HTML (err)
+  tl: a policy can't allow the element `script`: its content isn't HTML markup (err)
   [2]
   $ tl sanitize --tags B
-  tl: no policy may list the tag `B`: a name is a letter of a-z, and then letters and digits (err)
+  tl: invalid tag name `B`: expected a letter a-z, then letters and digits (err)
   [2]
   $ tl sanitize --tags form
-  tl: no policy may list the tag `form`: it changes what is around it, or loads what is no page (err)
+  tl: a policy can't allow the element `form`: it affects the page around it, or loads other content (err)
   [2]
   $ tl sanitize --keys title,onclick
-  tl: no policy may list the key `onclick`: its value is a script (err)
+  tl: a policy can't allow the attribute `onclick`: its value is a script (err)
   [2]
   $ tl sanitize --keys style
-  tl: no policy may list the key `style`: its value is no name, text or link (err)
+  tl: a policy can't allow the attribute `style`: its value isn't a name, text or URL (err)
   [2]
   $ tl sanitize --keys attributionsrc
-  tl: no policy may list the key `attributionsrc`: its value is no name, text or link (err)
+  tl: a policy can't allow the attribute `attributionsrc`: its value isn't a name, text or URL (err)
   [2]
   $ tl sanitize --keys poster
-  tl: no policy may list the key `poster`: it holds links, and is no link key (err)
+  tl: a policy can't allow the attribute `poster`: its value is a URL, so it has to be a link attribute too (err)
   [2]
   $ tl sanitize --links javascript:
-  tl: no policy may let links begin with `javascript:`: such links are programs or documents (err)
+  tl: a policy can't allow links that begin with `javascript:`: such URLs are programs or documents (err)
   [2]
   $ tl sanitize --links http
-  tl: no policy may let links begin with `http`: it is no scheme with its `:`, and no `/`, `#`, `?` or `.` stands first (err)
+  tl: invalid link prefix `http`: expected a scheme with its `:`, or `/`, `#`, `?` or `.` first (err)
   [2]
   $ tl sanitize --classes 'hljs,language-*,*-x'
-  tl: no pattern of classes: `*-x`: a pattern is a word without spaces and `"`, and a `*` stands at its end alone (err)
+  tl: invalid class pattern `*-x`: expected no spaces and no `"`, and `*` only at the end (err)
   [2]
   $ tl sanitize --prefix 1
-  tl: no prefix of names: `1`: a prefix is a letter of a-z, and then letters and `-` (err)
+  tl: invalid prefix `1`: expected a letter a-z, then letters and `-` (err)
   [2]
   $ tl sanitize --prefix=
-  tl: no prefix of names: ``: a prefix is a letter of a-z, and then letters and `-` (err)
+  tl: invalid prefix ``: expected a letter a-z, then letters and `-` (err)
   [2]
   $ tl sanitize --prefix 1 --tags script
-  tl: no policy may list the tag `script`: what stands in it is no markup of HTML (err)
+  tl: a policy can't allow the element `script`: its content isn't HTML markup (err)
   [2]
   $ tl sanitize --colour
   error: unexpected argument '--colour' found (err)
@@ -891,17 +891,17 @@ Words that no policy may list: the first one is named, and no page is made safe.
   ...
   [2]
   $ tl sanitize "$(printf '\377')"
-  tl: words: no UTF-8 (err)
+  tl: words: invalid UTF-8 (err)
   [2]
 
 Pages that can't be had are passed over, and the greatest status counts.
 
   $ printf '\377' | tl sanitize --strict
-  tl: -: no UTF-8 at byte 0; --encoding names the encoding (err)
+  tl: -: invalid UTF-8 at byte 0; --encoding names the encoding (err)
   [2]
   $ tl sanitize --strict --no-name a.html bytes.html b.html
   <p>a</p><b>b</b> (no-eol)
-  tl: bytes.html: no UTF-8 at byte 0; --encoding names the encoding (err)
+  tl: bytes.html: invalid UTF-8 at byte 0; --encoding names the encoding (err)
   [2]
   $ tl sanitize --no-name a.html none b.html
   <p>a</p><b>b</b> (no-eol)
@@ -909,10 +909,10 @@ Pages that can't be had are passed over, and the greatest status counts.
   [4]
   $ tl sanitize --strict none bytes.html
   tl: none: No such file or directory (os error 2) (err)
-  tl: bytes.html: no UTF-8 at byte 0; --encoding names the encoding (err)
+  tl: bytes.html: invalid UTF-8 at byte 0; --encoding names the encoding (err)
   [4]
   $ tl sanitize --strict bytes.html none
-  tl: bytes.html: no UTF-8 at byte 0; --encoding names the encoding (err)
+  tl: bytes.html: invalid UTF-8 at byte 0; --encoding names the encoding (err)
   tl: none: No such file or directory (os error 2) (err)
   [4]
   $ printf '<i>x</i>' | tl sanitize --no-name none -

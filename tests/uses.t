@@ -8,7 +8,7 @@ The callers of `crates/uses`.
   q
   (empty)
   $ printf '<p>' | uses values p, href
-  Error: at byte 2: a selector is missing (err)
+  Error: at byte 2: expected a selector (err)
   [1]
   $ printf '\377<p href=\377>' | uses values p href
   \xff (esc)
@@ -26,7 +26,7 @@ The callers of `crates/uses`.
   Error: a field is NAME=VALUE (err)
   [1]
   $ printf '\377' | uses fill a=1
-  Error: no UTF-8 at byte 0 (err)
+  Error: invalid UTF-8 at byte 0 (err)
   [1]
   $ printf '<p>' | uses value p href
   Error: usage: uses values SELECTOR KEY | elements SELECTOR | links URL | titles | text | fill NAME=VALUE .. < page (err)

@@ -318,10 +318,10 @@ static void of_words(void) {
     CHECK(strcmp(TL_VERSION, VERSION) == 0);
     CHECK(strcmp(tl_status_text(TL_NO_ROOM), "no room") == 0);
     CHECK(strcmp(tl_status_text(99), "no status") == 0);
-    CHECK(strcmp(tl_cause_text(TL_UNCLOSED), "this is opened and never closed") == 0);
+    CHECK(strcmp(tl_cause_text(TL_UNCLOSED), "opened here and never closed") == 0);
     CHECK(strcmp(tl_cause_text(TL_NO_CAUSE), "no cause") == 0);
-    CHECK(strcmp(tl_cause_text(TL_NO_CONTENT), "what is put can't stand there") == 0);
-    CHECK(strcmp(tl_reason_text(TL_LINK_KEY), "this key holds links, and is no link key") == 0);
+    CHECK(strcmp(tl_cause_text(TL_NO_CONTENT), "the new content or name can't be written there") == 0);
+    CHECK(strcmp(tl_reason_text(TL_LINK_KEY), "the value of this attribute is a URL, so it has to be a link attribute too") == 0);
     CHECK(strcmp(tl_reason_text(TL_NO_REASON), "no reason") == 0);
 }
 

@@ -562,7 +562,7 @@ static void of_no_document(void) {
     PUTS(tl_css_escape(BYTES("\x01\x7f"), OUT), "\\1 \\7f ");
     LEAVES(tl_css_escape(BYTES("a b"), out, 3, &needed), TL_NO_ROOM, 4);
     CHECK(tl_line_at((const uint8_t *)"a\nbc\n", 3, &column) == 2 && column == 1);
-    CHECK(strcmp(tl_error_message(TL_REFUSED, TL_NO_NAME), "a name is missing") == 0);
+    CHECK(strcmp(tl_error_message(TL_REFUSED, TL_NO_NAME), "expected a name") == 0);
     CHECK(strcmp(tl_error_message(TL_OUT_OF_MEMORY, TL_NO_CAUSE), "out of memory") == 0);
 }
 

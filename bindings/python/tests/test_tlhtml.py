@@ -33,10 +33,10 @@ class Selectors(unittest.TestCase):
         with self.assertRaises(SelectorError) as it:
             self.document.select("é li:hover")
         self.assertEqual((it.exception.selector, it.exception.place, it.exception.cause), ("é li:hover", 5, 9))
-        self.assertEqual(str(it.exception), "no selector: 'é li:hover': at 5: no such pseudo-class: `hover` (a page has no states)")
-        self.assertRegex(str(SelectorError("a[x!=y]", 3, 4)), r"or `\]` is missing: `!` \(write `:not\(\[key=value\]\)`\)$")
-        self.assertEqual(str(SelectorError("a ]", 2, 15)), "no selector: 'a ]': at 2: this can't stand here: `]`")
-        self.assertEqual(str(SelectorError("", 0, 2)), "no selector: '': at 0: a selector is missing")
+        self.assertEqual(str(it.exception), "invalid selector: 'é li:hover': at 5: unknown pseudo-class: `hover` (a parsed page has no such state)")
+        self.assertRegex(str(SelectorError("a[x!=y]", 3, 4)), r"or `\]`, found `!` \(write `:not\(\[key=value\]\)`\)$")
+        self.assertEqual(str(SelectorError("a ]", 2, 15)), "invalid selector: 'a ]': at 2: unexpected text: `]`")
+        self.assertEqual(str(SelectorError("", 0, 2)), "invalid selector: '': at 0: expected a selector")
         with self.assertRaises(SelectorError) as it:
             self.document.select("> li")
         self.assertEqual((it.exception.place, it.exception.cause), (0, 2))
@@ -312,7 +312,7 @@ class Links(unittest.TestCase):
         for refused in ("data:text/html,x", "javascript:x", "http://["):
             self.assertEqual(targets(page.format(refused), "https://a.org/d/")[1], "https://a.org/d/%C3%A9")
         for base in ("", "x", "//a.org"):
-            with self.assertRaisesRegex(ValueError, "the base is no URL"):
+            with self.assertRaisesRegex(ValueError, "the base isn't a URL"):
                 targets(self.page, base)
 
 
@@ -640,7 +640,7 @@ class SafePages(unittest.TestCase):
             with self.assertRaises(PolicyError) as it:
                 Policy.BLOG.lists(**words)
             self.assertEqual((it.exception.word, it.exception.reason), (word, reason))
-        self.assertEqual(str(PolicyError("www", 10)), "'www': no scheme with its `:`, and no `/`, `#`, `?` or `.` stands first")
+        self.assertEqual(str(PolicyError("www", 10)), "'www': invalid link prefix: expected a scheme with its `:`, or `/`, `#`, `?` or `.` first")
         with self.assertRaisesRegex(ValueError, "comma"):
             Policy.BLOG.lists(tags=["p,b"])
 
@@ -664,7 +664,7 @@ class Changes(unittest.TestCase):
         self.assertEqual((it.exception.place, it.exception.cause), (2, 9))
         with self.assertRaises(ChangeError) as it:
             set_attribute(self.page, "p", "a", "b")
-        self.assertEqual(str(it.exception), "at 51: this element has no tag in the page: browsers put it in here")
+        self.assertEqual(str(it.exception), "at 51: browsers add this element: it has no tag to edit")
         self.assertEqual(it.exception.cause, 24)
         with self.assertRaises(ChangeError) as it:
             set_attribute("é<table><tr><td>x</table>", "tbody", "a", "b")
@@ -719,7 +719,7 @@ class Elements(unittest.TestCase):
         ):
             with self.assertRaises(ValueError):
                 edit(self.page, "b", what, **words)
-        self.assertEqual(str(ChangeError(7, 19)), "at 7: this element can't be changed so: it isn't closed, or is a tag alone")
+        self.assertEqual(str(ChangeError(7, 19)), "at 7: this element can't be edited this way: its end tag is missing, or its kind doesn't allow it")
         for call in (lambda selector: edit(self.page, selector, "remove"), lambda selector: set_attribute(self.page, selector, "a", "b")):
             with self.assertRaises(SelectorError) as it:
                 call("é ]")

@@ -379,7 +379,7 @@ class Document:
         """The base of the page's links, where the page has this URL."""
         own = join_url(page, "")
         if own is None:
-            raise ValueError(f"the base is no URL: {page!r}")
+            raise ValueError(f"the base isn't a URL: {page!r}")
         element = self.select_one("base[href]")
         there = element and join_url(own, element["href"])
         return own if not there or there.startswith(("data:", "javascript:")) else there

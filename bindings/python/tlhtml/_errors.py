@@ -4,52 +4,52 @@ from __future__ import annotations
 import re
 
 CAUSES = {
-    1: "this is opened and never closed",
-    2: "a selector is missing",
-    3: "a name is missing",
-    4: "`=`, `~=`, `|=`, `^=`, `$=`, `*=` or `]` is missing",
-    5: "a value is missing",
-    6: "the only flags are `i` and `s`",
-    7: "this is no formula such as `2n+1`, `odd` or `3`",
-    8: "the number is above 2147483647",
-    9: "no such pseudo-class",
-    10: "a pseudo-element is no tag",
-    11: "no prefix of a namespace is known here",
-    12: "an argument in brackets is missing",
+    1: "opened here and never closed",
+    2: "expected a selector",
+    3: "expected a name",
+    4: "expected `=`, `~=`, `|=`, `^=`, `$=`, `*=` or `]`",
+    5: "expected a value",
+    6: "expected the flag `i` or `s`",
+    7: "expected `an+b`, `odd` or `even`",
+    8: "number above 2147483647",
+    9: "unknown pseudo-class",
+    10: "pseudo-elements match no element",
+    11: "unknown namespace prefix",
+    12: "expected an argument in parentheses",
     13: "this pseudo-class takes no argument",
-    14: "too many selectors inside one another",
-    15: "this can't stand here",
+    14: "selectors nested too deeply",
+    15: "unexpected text",
     16: "this element has no start tag",
-    17: "this tag can't be changed so",
-    18: "the page would be read otherwise than asked",
-    19: "this element can't be changed so: it isn't closed, or is a tag alone",
-    20: "this change and that of another element cut across each other",
-    21: "nothing can stand behind the end of the page",
-    22: "what is put can't stand there",
-    23: "a browser may read a raw text as markup there",
-    24: "this element has no tag in the page: browsers put it in here",
-    25: "what begins here is in this element by its tags or to browsers, and not by both",
+    17: "the new attribute or name can't be written in this tag",
+    18: "this edit would change how other parts of the page are read",
+    19: "this element can't be edited this way: its end tag is missing, or its kind doesn't allow it",
+    20: "this edit overlaps the edit of another element",
+    21: "nothing can be inserted after the end of the page",
+    22: "the new content or name can't be written there",
+    23: "a browser may read raw text as markup here",
+    24: "browsers add this element: it has no tag to edit",
+    25: "only attributes of this element can be edited: what begins here is in it by its tags or in browsers, but not both",
 }
 
 REASONS = {
-    1: "no such tag: a name is a letter of a-z, and then letters and digits",
-    2: "no policy may list this tag: what stands in it is no markup of HTML",
-    3: "no policy may list this tag: it changes what is around it, or loads what is no page",
-    4: "no such key: a key is a letter of a-z, and then letters and `-`",
-    5: "no policy may list this key: its value is a script",
-    6: "no policy may list this key: its value is no name, text or link",
-    7: "this key holds links, and is no link key",
-    8: "links begin with printable ASCII without spaces, `\"`, `<` and `>`",
-    9: "links that begin so are programs or documents",
-    10: "no scheme with its `:`, and no `/`, `#`, `?` or `.` stands first",
-    11: "no prefix: it is a letter of a-z, and then letters and `-`",
-    12: "links can't be marked at this key: it is no listed key, or a link key",
-    13: "`tbody`, `thead` or `tfoot` of this table is missing, so rows lose their texts",
-    14: "`tr` of this table is missing, so rows lose their texts",
-    15: "`td` or `th` of this table is missing, so cells lose their texts",
-    16: "`caption` of this table is missing, so captions lose their texts",
-    17: "`table` is missing, in which alone this tag may stand",
-    18: "no pattern of classes: it is a word without spaces and `\"`, with a `*` at its end alone",
+    1: "invalid tag name: expected a letter a-z, then letters and digits",
+    2: "a policy can't allow this element: its content isn't HTML markup",
+    3: "a policy can't allow this element: it affects the page around it, or loads other content",
+    4: "invalid attribute name: expected a letter a-z, then letters and `-`",
+    5: "a policy can't allow this attribute: its value is a script",
+    6: "a policy can't allow this attribute: its value isn't a name, text or URL",
+    7: "the value of this attribute is a URL, so it has to be a link attribute too",
+    8: "invalid link prefix: expected printable ASCII without spaces, `\"`, `<` and `>`",
+    9: "URLs that begin so are programs or documents",
+    10: "invalid link prefix: expected a scheme with its `:`, or `/`, `#`, `?` or `.` first",
+    11: "invalid prefix: expected a letter a-z, then letters and `-`",
+    12: "links can't be marked with this attribute: it isn't allowed, or is a link attribute",
+    13: "`tbody`, `thead` or `tfoot` has to be allowed too, or rows lose their text",
+    14: "`tr` has to be allowed too, or rows lose their text",
+    15: "`td` or `th` has to be allowed too, or cells lose their text",
+    16: "`caption` has to be allowed too, or captions lose their text",
+    17: "`table` has to be allowed too, as this element belongs in one",
+    18: "invalid class pattern: expected no spaces and no `\"`, and `*` only at the end",
 }
 
 
@@ -65,7 +65,7 @@ WHYS = {
 
 
 # What to write instead of pseudo-classes that browsers have, as `tl` says it.
-_NO_STATES = "a page has no states"
+_NO_STATES = "a parsed page has no such state"
 PSEUDO_CLASSES = {
     **dict.fromkeys(("active", "focus", "focus-visible", "focus-within", "hover", "target", "visited"), _NO_STATES),
     "link": "write `[href]`",
@@ -74,21 +74,21 @@ PSEUDO_CLASSES = {
     "disabled": "write `[disabled]`",
     "enabled": "write `:not([disabled])`",
     "required": "write `[required]`",
-    "contains": "there is no test of texts",
+    "contains": "elements can't be matched by their text",
 }
 
 
 def _hint(cause: int, word: str) -> str:
     """What to do about a cause where this word stands, as `tl` says it; nothing where there is nothing to say."""
     if cause == 9:
-        return PSEUDO_CLASSES.get(word.lower(), "a colon in a name is written `\\:`")
+        return PSEUDO_CLASSES.get(word.lower(), "write `\\:` for a colon in a name")
     if cause == 4 and word == "!":
         return "write `:not([key=value])`"
     if cause == 5 and word not in ("", "]"):
-        return "a value that is no name stands in quotes"
+        return "put the value in quotes"
     if cause in (3, 6, 15) and word and word in "@$%&/!?;{}.":
-        return "it may stand in quotes in a value, and behind `\\` in a name"
-    return "a bar in a name is written `\\|`" if cause == 11 else ""
+        return "put a value in quotes; in a name write `\\` before it"
+    return "write `\\|` for a bar in a name" if cause == 11 else ""
 
 
 class Error(Exception):
@@ -105,7 +105,7 @@ class OutOfProportion(Error, ValueError):
 
 
 class SelectorError(Error, ValueError):
-    """A text is no selector: the place of the first character that is wrong, and why."""
+    """A text is invalid selector: the place of the first character that is wrong, and why."""
 
     def __init__(self, selector: str, place: int, cause: int) -> None:
         self.selector, self.place, self.cause = selector, place, cause
@@ -119,8 +119,9 @@ class SelectorError(Error, ValueError):
 
     def __str__(self) -> str:
         said, word = CAUSES.get(self.cause, f"cause {self.cause}"), self.word
-        hint = _hint(self.cause, word)
-        return f"no selector: {self.selector!r}: at {self.place}: {said}" + f": `{word}`" * bool(word) + f" ({hint})" * bool(word and hint)
+        hint, joint = _hint(self.cause, word), ", found" if said.startswith("expected") else ":"
+        found = f"{joint} `{word}`" * bool(word) + f" ({hint})" * bool(word and hint)
+        return f"invalid selector: {self.selector!r}: at {self.place}: {said}{found}"
 
 
 class PolicyError(Error, ValueError):

@@ -20,7 +20,7 @@ class Selector:
     [1, 0]
     >>> Selector("li:hover")
     Traceback (most recent call last):
-    tlhtml._errors.SelectorError: no selector: 'li:hover': at 3: no such pseudo-class: `hover` (a page has no states)
+    tlhtml._errors.SelectorError: invalid selector: 'li:hover': at 3: unknown pseudo-class: `hover` (a parsed page has no such state)
     """
 
     __slots__ = ("_handle", "_is_whole", "_lent", "_lock", "text")

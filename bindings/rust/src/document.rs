@@ -17,7 +17,7 @@ use std::sync::{Mutex, MutexGuard, PoisonError};
 /// assert_eq!(second.parent().unwrap().name(), Some("body"));
 /// assert_eq!(document.html()?, "<html><head></head><body><p>one</p><p class=\"b\">two</p></body></html>");
 /// assert_eq!(document.select("p +")
-///     .unwrap_err().to_string(), "no selector: at byte 3: a selector is missing");
+///     .unwrap_err().to_string(), "invalid selector: at byte 3: expected a selector");
 /// # Ok::<(), tlhtml::Error>(())
 /// ```
 ///

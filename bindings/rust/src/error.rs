@@ -40,14 +40,14 @@ impl fmt::Display for Error {
     fn fmt(&self, f: &mut fmt::Formatter<'_>) -> fmt::Result {
         match self {
             Error::NoSelector { place, cause } => {
-                write!(f, "no selector: at byte {place}: {cause}")
+                write!(f, "invalid selector: at byte {place}: {cause}")
             }
-            Error::NoEncoding => f.write_str("no label of an encoding"),
-            Error::NoPolicy(reason) => write!(f, "no policy: {reason}"),
+            Error::NoEncoding => f.write_str("unknown encoding"),
+            Error::NoPolicy(reason) => write!(f, "invalid policy: {reason}"),
             Error::NotChanged { place, cause } => write!(f, "at byte {place}: {cause}"),
             Error::TooLong => f.write_str("the page is too long"),
             Error::OutOfProportion => f.write_str("the tree of the page is out of proportion"),
-            Error::NoUrl => f.write_str("the base is no URL"),
+            Error::NoUrl => f.write_str("the base isn't a URL"),
             Error::OtherTree => f.write_str("with these values the page has another tree"),
             Error::OutOfMemory => f.write_str("out of memory"),
         }
@@ -89,58 +89,58 @@ macro_rules! causes {
 
 causes! {
     /// A bracket, a string or a comment that begins here isn't closed.
-    Unclosed = 1, "this is opened and never closed";
+    Unclosed = 1, "opened here and never closed";
     /// A selector has to stand here.
-    NoSelector = 2, "a selector is missing";
+    NoSelector = 2, "expected a selector";
     /// A name has to stand here.
-    NoName = 3, "a name is missing";
+    NoName = 3, "expected a name";
     /// `=` or one of `~= |= ^= $= *=` has to stand here, or a `]`.
-    NoOperator = 4, "`=`, `~=`, `|=`, `^=`, `$=`, `*=` or `]` is missing";
+    NoOperator = 4, "expected `=`, `~=`, `|=`, `^=`, `$=`, `*=` or `]`";
     /// A name or a string has to stand here.
-    NoValue = 5, "a value is missing";
+    NoValue = 5, "expected a value";
     /// This flag is neither `i` nor `s`.
-    NoFlag = 6, "the only flags are `i` and `s`";
+    NoFlag = 6, "expected the flag `i` or `s`";
     /// What stands here is no formula `an+b`, or doesn't end one.
-    NoFormula = 7, "this is no formula such as `2n+1`, `odd` or `3`";
+    NoFormula = 7, "expected `an+b`, `odd` or `even`";
     /// This number is above 2147483647.
-    LargeNumber = 8, "the number is above 2147483647";
+    LargeNumber = 8, "number above 2147483647";
     /// No pseudo-class has this name.
-    NoPseudoClass = 9, "no such pseudo-class";
+    NoPseudoClass = 9, "unknown pseudo-class";
     /// Pseudo-elements are no tags.
-    PseudoElement = 10, "a pseudo-element is no tag";
+    PseudoElement = 10, "pseudo-elements match no element";
     /// No prefix of a namespace is known.
-    Namespace = 11, "no prefix of a namespace is known here";
+    Namespace = 11, "unknown namespace prefix";
     /// The pseudo-class needs an argument in brackets.
-    NeedsArgument = 12, "an argument in brackets is missing";
+    NeedsArgument = 12, "expected an argument in parentheses";
     /// The pseudo-class takes no argument.
     TakesNone = 13, "this pseudo-class takes no argument";
     /// So many selectors wait here for those inside them that this one is too much.
-    TooDeep = 14, "too many selectors inside one another";
+    TooDeep = 14, "selectors nested too deeply";
     /// This byte can't stand here.
-    Unexpected = 15, "this can't stand here";
+    Unexpected = 15, "unexpected text";
     /// The tokenizer by itself reads no start tag here, as in a `title` of an `svg`.
     NoStartTag = 16, "this element has no start tag";
     /// This key or this value can't be written in the tag that begins here.
-    NotWritten = 17, "this tag can't be changed so";
+    NotWritten = 17, "the new attribute or name can't be written in this tag";
     /// The page would be read otherwise than asked.
-    ReadOtherwise = 18, "the page would be read otherwise than asked";
+    ReadOtherwise = 18, "this edit would change how other parts of the page are read";
     /// The element isn't closed, is a tag alone, or it is a `body` or `html`, after which nothing can
     /// stand.
-    NotMeant = 19, "this element can't be changed so: it isn't closed, or is a tag alone";
+    NotMeant = 19, "this element can't be edited this way: its end tag is missing, or its kind doesn't allow it";
     /// The change of the element and that of another cut across each other.
-    Across = 20, "this change and that of another element cut across each other";
+    Across = 20, "this edit overlaps the edit of another element";
     /// What is put would stand behind the end of the page; none does.
-    EndOfPage = 21, "nothing can stand behind the end of the page";
+    EndOfPage = 21, "nothing can be inserted after the end of the page";
     /// What is put can't stand there: markup in a raw text, or a text that would be read otherwise.
-    NoContent = 22, "what is put can't stand there";
+    NoContent = 22, "the new content or name can't be written there";
     /// A browser may read as markup a text with `&` or `<` in a `style`, `script` and the like, as it
     /// stands behind a `svg`, `math`, `frameset`, `template`, `noscript` or `select`: such a text
     /// would be put there, or the element would get such a name before such a text.
-    Misread = 23, "a browser may read a raw text as markup there";
+    Misread = 23, "a browser may read raw text as markup here";
     /// The selector matches an element that no tag stands for, as a `tbody` that browsers put in.
-    Untagged = 24, "this element has no tag in the page: browsers put it in here";
+    Untagged = 24, "browsers add this element: it has no tag to edit";
     /// An element isn't whole, so its tag alone can be changed: what begins here stands in the bytes
     /// that it has by its end tags, and not in it in the tree that browsers build, or the other way
     /// round.
-    NotWhole = 25, "what begins here is in this element by its tags or to browsers, and not by both";
+    NotWhole = 25, "only attributes of this element can be edited: what begins here is in it by its tags or in browsers, but not both";
 }

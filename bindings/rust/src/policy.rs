@@ -259,39 +259,39 @@ macro_rules! reasons {
 
 reasons! {
     /// A name of a tag is a letter of a-z, and then letters and digits.
-    MalformedTag = 1, "no such tag: a name is a letter of a-z, and then letters and digits";
+    MalformedTag = 1, "invalid tag name: expected a letter a-z, then letters and digits";
     /// What stands in this tag is no markup of HTML.
-    OpaqueTag = 2, "no policy may list this tag: what stands in it is no markup of HTML";
+    OpaqueTag = 2, "a policy can't allow this element: its content isn't HTML markup";
     /// This tag changes what is around it, or loads what is no page.
-    StructuralTag = 3, "no policy may list this tag: it changes what is around it, or loads what is no page";
+    StructuralTag = 3, "a policy can't allow this element: it affects the page around it, or loads other content";
     /// A key is a letter of a-z, and then letters and `-`.
-    MalformedKey = 4, "no such key: a key is a letter of a-z, and then letters and `-`";
+    MalformedKey = 4, "invalid attribute name: expected a letter a-z, then letters and `-`";
     /// The value of this key is a script.
-    ScriptKey = 5, "no policy may list this key: its value is a script";
+    ScriptKey = 5, "a policy can't allow this attribute: its value is a script";
     /// The value of this key is no name, text or link.
-    ActiveKey = 6, "no policy may list this key: its value is no name, text or link";
+    ActiveKey = 6, "a policy can't allow this attribute: its value isn't a name, text or URL";
     /// This key holds links, and is no link key.
-    LinkKey = 7, "this key holds links, and is no link key";
+    LinkKey = 7, "the value of this attribute is a URL, so it has to be a link attribute too";
     /// Links begin with printable ASCII without spaces, `"`, `<` and `>`.
-    MalformedLink = 8, "links begin with printable ASCII without spaces, `\"`, `<` and `>`";
+    MalformedLink = 8, "invalid link prefix: expected printable ASCII without spaces, `\"`, `<` and `>`";
     /// Links that begin so are programs or documents.
-    ActiveScheme = 9, "links that begin so are programs or documents";
+    ActiveScheme = 9, "URLs that begin so are programs or documents";
     /// Links begin with a scheme and its `:`, or with `/`, `#`, `?` or `.`.
-    NoScheme = 10, "no scheme with its `:`, and no `/`, `#`, `?` or `.` stands first";
+    NoScheme = 10, "invalid link prefix: expected a scheme with its `:`, or `/`, `#`, `?` or `.` first";
     /// A prefix of names is a letter of a-z, and then letters and `-`.
-    MalformedPrefix = 11, "no prefix: it is a letter of a-z, and then letters and `-`";
+    MalformedPrefix = 11, "invalid prefix: expected a letter a-z, then letters and `-`";
     /// Links are marked at `rel`, which is no listed key, or a link key.
-    UnlistedMark = 12, "links can't be marked at this key: it is no listed key, or a link key";
-    /// `tbody`, `thead` or `tfoot` of this table is missing, so rows lose their texts.
-    NoTableBody = 13, "`tbody`, `thead` or `tfoot` of this table is missing, so rows lose their texts";
-    /// `tr` of this table is missing, so rows lose their texts.
-    NoRow = 14, "`tr` of this table is missing, so rows lose their texts";
-    /// `td` or `th` of this table is missing, so cells lose their texts.
-    NoCell = 15, "`td` or `th` of this table is missing, so cells lose their texts";
-    /// `caption` of this table is missing, so captions lose their texts.
-    NoCaption = 16, "`caption` of this table is missing, so captions lose their texts";
-    /// `table` is missing, in which alone this tag may stand.
-    NoTable = 17, "`table` is missing, in which alone this tag may stand";
+    UnlistedMark = 12, "links can't be marked with this attribute: it isn't allowed, or is a link attribute";
+    /// `tbody`, `thead` or `tfoot` has to be allowed too, or rows lose their text.
+    NoTableBody = 13, "`tbody`, `thead` or `tfoot` has to be allowed too, or rows lose their text";
+    /// `tr` has to be allowed too, or rows lose their text.
+    NoRow = 14, "`tr` has to be allowed too, or rows lose their text";
+    /// `td` or `th` has to be allowed too, or cells lose their text.
+    NoCell = 15, "`td` or `th` has to be allowed too, or cells lose their text";
+    /// `caption` has to be allowed too, or captions lose their text.
+    NoCaption = 16, "`caption` has to be allowed too, or captions lose their text";
+    /// `table` has to be allowed too, as this element belongs in one.
+    NoTable = 17, "`table` has to be allowed too, as this element belongs in one";
     /// A pattern of classes is a word without spaces and `"`, with a `*` at its end alone.
-    MalformedClass = 18, "no pattern of classes: it is a word without spaces and `\"`, with a `*` at its end alone";
+    MalformedClass = 18, "invalid class pattern: expected no spaces and no `\"`, and `*` only at the end";
 }

@@ -13,7 +13,7 @@ use std::{fmt, ptr};
 /// use tlhtml::{Document, Selector};
 /// let links = Selector::parse("li > a[href]")?;
 /// assert_eq!(Document::parse("<li><a href=/x>y</a>")?.select(&links)?.len(), 1);
-/// assert_eq!(Selector::parse("li:hover").unwrap_err().to_string(), "no selector: at byte 3: no such pseudo-class");
+/// assert_eq!(Selector::parse("li:hover").unwrap_err().to_string(), "invalid selector: at byte 3: unknown pseudo-class");
 /// # Ok::<(), tlhtml::Error>(())
 /// ```
 #[derive(Clone)]

@@ -45,7 +45,7 @@ fn selectors() {
     assert_eq!(document.first("li:hover"), Err(wrong));
     assert_eq!(
         wrong.to_string(),
-        "no selector: at byte 3: no such pseudo-class"
+        "invalid selector: at byte 3: unknown pseudo-class"
     );
     let (place, cause) = (0, Cause::NoSelector);
     assert_eq!(
@@ -757,11 +757,11 @@ fn texts_of_errors() {
     for (error, wanted) in [
         (
             Error::NotChanged { place, cause },
-            "at byte 7: this element can't be changed so: it isn't closed, or is a tag alone",
+            "at byte 7: this element can't be edited this way: its end tag is missing, or its kind doesn't allow it",
         ),
         (
             Error::NoPolicy(Reason::ScriptKey),
-            "no policy: no policy may list this key: its value is a script",
+            "invalid policy: a policy can't allow this attribute: its value is a script",
         ),
         (Error::TooLong, "the page is too long"),
         (

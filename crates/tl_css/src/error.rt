@@ -80,21 +80,21 @@ impl From<AllocError> for Failure {
 impl fmt::Display for Cause {
     fn fmt<W: fmt::Write>(&self, f: &mut fmt::Formatter<W>) -> fmt::Result {
         f.write_str(match self {
-            Cause::Unclosed => "this is opened and never closed",
-            Cause::NoSelector => "a selector is missing",
-            Cause::NoName => "a name is missing",
-            Cause::NoOperator => "`=`, `~=`, `|=`, `^=`, `$=`, `*=` or `]` is missing",
-            Cause::NoValue => "a value is missing",
-            Cause::NoFlag => "the only flags are `i` and `s`",
-            Cause::NoFormula => "this is no formula such as `2n+1`, `odd` or `3`",
-            Cause::LargeNumber => "the number is above 2147483647",
-            Cause::NoPseudoClass => "no such pseudo-class",
-            Cause::PseudoElement => "a pseudo-element is no tag",
-            Cause::Namespace => "no prefix of a namespace is known here",
-            Cause::NeedsArgument => "an argument in brackets is missing",
+            Cause::Unclosed => "opened here and never closed",
+            Cause::NoSelector => "expected a selector",
+            Cause::NoName => "expected a name",
+            Cause::NoOperator => "expected `=`, `~=`, `|=`, `^=`, `$=`, `*=` or `]`",
+            Cause::NoValue => "expected a value",
+            Cause::NoFlag => "expected the flag `i` or `s`",
+            Cause::NoFormula => "expected `an+b`, `odd` or `even`",
+            Cause::LargeNumber => "number above 2147483647",
+            Cause::NoPseudoClass => "unknown pseudo-class",
+            Cause::PseudoElement => "pseudo-elements match no element",
+            Cause::Namespace => "unknown namespace prefix",
+            Cause::NeedsArgument => "expected an argument in parentheses",
             Cause::TakesNone => "this pseudo-class takes no argument",
-            Cause::TooDeep => "too many selectors inside one another",
-            Cause::Unexpected => "this can't stand here",
+            Cause::TooDeep => "selectors nested too deeply",
+            Cause::Unexpected => "unexpected text",
         })
     }
 }

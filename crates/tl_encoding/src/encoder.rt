@@ -14,7 +14,7 @@ use thiserror::Error;
 #[derive(Clone, Copy, PartialEq, Eq, Debug, Error)]
 pub enum EncodeError {
     /// The first character that the encoding lacks.
-    #[error("no {0:?} in the encoding of the page")]
+    #[error("the encoding of the page lacks {0:?}")]
     NoCharacter(char),
     /// Memory ran out.
     #[error("out of memory")]

@@ -20,10 +20,10 @@ use thiserror::Error;
 #[derive(Clone, Copy, PartialEq, Eq, Debug, Error)]
 pub enum DecodeError {
     /// So many bytes are UTF-8, and then some are none.
-    #[error("no UTF-8 at byte {0}")]
+    #[error("invalid UTF-8 at byte {0}")]
     NoText(usize),
     /// So many bytes stand for characters in another encoding, and then some don't.
-    #[error("no character at byte {0}")]
+    #[error("invalid byte sequence at byte {0}")]
     NoCharacter(usize),
     /// Memory ran out.
     #[error("out of memory")]

@@ -6,10 +6,10 @@ use tl_patch::PatchError;
 use tl_patch_edit::EditError;
 
 static OF_PATCH: [(PatchError, &str); 3] = [
-    (PatchError::NoStartTag(7), "no start tag at 7"),
+    (PatchError::NoStartTag(7), "no start tag at byte 7"),
     (
         PatchError::NotWritten(7),
-        "the tag at 7 can't be changed so",
+        "the new attribute or name can't be written in the tag at byte 7",
     ),
     (PatchError::OutOfMemory, "out of memory"),
 ];
@@ -17,18 +17,21 @@ static OF_PATCH: [(PatchError, &str); 3] = [
 #[rattlefmt::skip]
 static OF_EDIT: [(EditError, &str); 8] = [
     (EditError::NoStartTag(7), "no start tag at byte 7"),
-    (EditError::NotMeant(7), "the element at byte 7 can't be changed so"),
-    (EditError::Across(7), "the change of the element at byte 7 cuts across another"),
-    (EditError::EndOfPage(7), "the end of the page, for the element at byte 7"),
-    (EditError::NotWritten(7), "what is put can't stand there, for the element at byte 7"),
-    (EditError::Misread(7, 3), "a browser may read a raw text behind byte 3 as markup, for the element at byte 7"),
-    (EditError::ReadOtherwise(7), "the page would be read otherwise, for the element at byte 7"),
+    (EditError::NotMeant(7), "the element at byte 7 can't be edited this way: its end tag is missing, or its kind doesn't allow it"),
+    (EditError::Across(7), "the edit of the element at byte 7 overlaps the edit of another"),
+    (EditError::EndOfPage(7), "nothing can be inserted after the end of the page (element at byte 7)"),
+    (EditError::NotWritten(7), "the new content or name can't be written there (element at byte 7)"),
+    (EditError::Misread(7, 3), "a browser may read raw text after byte 3 as markup (element at byte 7)"),
+    (EditError::ReadOtherwise(7), "this edit would change how other parts of the page are read (element at byte 7)"),
     (EditError::OutOfMemory, "out of memory"),
 ];
 
 static OF_DECODE: [(DecodeError, &str); 3] = [
-    (DecodeError::NoText(7), "no UTF-8 at byte 7"),
-    (DecodeError::NoCharacter(7), "no character at byte 7"),
+    (DecodeError::NoText(7), "invalid UTF-8 at byte 7"),
+    (
+        DecodeError::NoCharacter(7),
+        "invalid byte sequence at byte 7",
+    ),
     (DecodeError::OutOfMemory, "out of memory"),
 ];
 

@@ -16,7 +16,7 @@ too_long = record { failure = NotUnderstood; cause = TooLong; place = largest_u3
 
 -- what is printed of a cause
 abbrev pub cause_text : Cause → List ℕ
-cause_text NoText = codes "no UTF-8"
+cause_text NoText = codes "invalid UTF-8"
 cause_text TooLong = codes "too long"
 
 -- and of an error

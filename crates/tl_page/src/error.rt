@@ -56,7 +56,7 @@ impl fmt::Display for Cause {
 
     fn fmt<W: fmt::Write>(&self, f: &mut fmt::Formatter<W>) -> fmt::Result {
         match self {
-            Cause::NoText => write!(f, "no UTF-8"),
+            Cause::NoText => write!(f, "invalid UTF-8"),
             Cause::TooLong => write!(f, "too long"),
         }
     }

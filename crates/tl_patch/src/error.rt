@@ -9,10 +9,10 @@ use thiserror::Error;
 #[derive(Clone, Copy, PartialEq, Eq, Debug, Error)]
 pub enum PatchError {
     /// No start tag begins at this place of the page, or the place of a patch before it is greater.
-    #[error("no start tag at {0}")]
+    #[error("no start tag at byte {0}")]
     NoStartTag(usize),
     /// What is to be set in the tag at this place can't be written.
-    #[error("the tag at {0} can't be changed so")]
+    #[error("the new attribute or name can't be written in the tag at byte {0}")]
     NotWritten(usize),
     /// Memory ran out.
     #[error("out of memory")]

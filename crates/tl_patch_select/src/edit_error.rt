@@ -15,12 +15,12 @@ pub enum SelectionEditError {
     Refused(EditError),
     /// The selector holds at an element that no tag stands for, as a `tbody` that the standard
     /// puts in before the first row: it was put in before what begins at this place.
-    #[error("the element that is put in at byte {0} has no tag")]
+    #[error("the element that browsers add at byte {0} has no tag to edit")]
     Untagged(usize),
     /// The element whose start tag begins at the first place isn't whole, so that it can be changed
     /// by its tag alone: what begins at the second one stands in the bytes that it has by its end
     /// tags, and not in it in the tree that browsers build, or the other way round.
-    #[error("the element at byte {0} isn't whole: what begins at byte {1} is in it by its tags or to browsers, and not by both")]
+    #[error("only attributes of the element at byte {0} can be edited: by its tags it has other content than in browsers (see byte {1})")]
     NotWhole(usize, usize),
     /// Memory ran out.
     #[error("out of memory")]

@@ -12,13 +12,13 @@ use tl_patch::PatchError;
 pub enum SelectionPatchError {
     /// The selector holds at an element that no tag stands for, as a `tbody` that the standard
     /// puts in before the first row: it was put in before what begins at this place.
-    #[error("the element that is put in at byte {0} has no tag")]
+    #[error("the element that browsers add at byte {0} has no tag to edit")]
     Untagged(usize),
     /// The tokenizer by itself reads no start tag at this place, where one stands in the tree.
     #[error("the element at byte {0} has no start tag")]
     NoStartTag(usize),
     /// What is to be set in the tag at this place can't be written.
-    #[error("the tag at byte {0} can't be changed so")]
+    #[error("the new attribute or name can't be written in the tag at byte {0}")]
     NotWritten(usize),
     /// Memory ran out.
     #[error("out of memory")]

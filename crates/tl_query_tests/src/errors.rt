@@ -7,7 +7,7 @@ use tl_patch_select::{SelectionEditError, SelectionPatchError};
 static OF_PATCH: [(SelectionPatchError, &str); 4] = [
     (
         SelectionPatchError::Untagged(7),
-        "the element that is put in at byte 7 has no tag",
+        "the element that browsers add at byte 7 has no tag to edit",
     ),
     (
         SelectionPatchError::NoStartTag(7),
@@ -15,7 +15,7 @@ static OF_PATCH: [(SelectionPatchError, &str); 4] = [
     ),
     (
         SelectionPatchError::NotWritten(7),
-        "the tag at byte 7 can't be changed so",
+        "the new attribute or name can't be written in the tag at byte 7",
     ),
     (SelectionPatchError::OutOfMemory, "out of memory"),
 ];
@@ -23,15 +23,15 @@ static OF_PATCH: [(SelectionPatchError, &str); 4] = [
 static OF_EDIT: [(SelectionEditError, &str); 4] = [
     (
         SelectionEditError::Refused(EditError::NotMeant(7)),
-        "the element at byte 7 can't be changed so",
+        "the element at byte 7 can't be edited this way: its end tag is missing, or its kind doesn't allow it",
     ),
     (
         SelectionEditError::Untagged(7),
-        "the element that is put in at byte 7 has no tag",
+        "the element that browsers add at byte 7 has no tag to edit",
     ),
     (
         SelectionEditError::NotWhole(7, 9),
-        "the element at byte 7 isn't whole: what begins at byte 9 is in it by its tags or to browsers, and not by both",
+        "only attributes of the element at byte 7 can be edited: by its tags it has other content than in browsers (see byte 9)",
     ),
     (SelectionEditError::OutOfMemory, "out of memory"),
 ];

@@ -62,7 +62,7 @@ fn says(alloc: Global, error: PageError, words: &str) -> Result<bool, AllocError
 
 #[test]
 fn errors_say_cause_and_place(rt: HostRuntime) {
-    assert!(rt; says(rt.alloc(), PageError::no_text(4), "no UTF-8 at byte 4") == Ok(true));
+    assert!(rt; says(rt.alloc(), PageError::no_text(4), "invalid UTF-8 at byte 4") == Ok(true));
     assert!(rt;
         says(
             rt.alloc(),

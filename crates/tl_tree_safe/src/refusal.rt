@@ -48,23 +48,23 @@ impl Reason {
     // What is said before the word that is refused.
     fn subject(self) -> &'static str {
         match self {
-            Reason::MalformedTag
-            | Reason::OpaqueTag
+            Reason::MalformedTag => "invalid tag name",
+            Reason::OpaqueTag
             | Reason::StructuralTag
             | Reason::NoTableBody
             | Reason::NoRow
             | Reason::NoCell
             | Reason::NoCaption
-            | Reason::NoTable => "no policy may list the tag",
-            Reason::MalformedKey | Reason::ScriptKey | Reason::ActiveKey | Reason::LinkKey => {
-                "no policy may list the key"
+            | Reason::NoTable => "a policy can't allow the element",
+            Reason::MalformedKey => "invalid attribute name",
+            Reason::ScriptKey | Reason::ActiveKey | Reason::LinkKey => {
+                "a policy can't allow the attribute"
             }
-            Reason::MalformedLink | Reason::ActiveScheme | Reason::NoScheme => {
-                "no policy may let links begin with"
-            }
-            Reason::MalformedClass => "no pattern of classes:",
-            Reason::MalformedPrefix => "no prefix of names:",
-            Reason::UnlistedMark => "no policy may mark links at",
+            Reason::MalformedLink | Reason::NoScheme => "invalid link prefix",
+            Reason::ActiveScheme => "a policy can't allow links that begin with",
+            Reason::MalformedClass => "invalid class pattern",
+            Reason::MalformedPrefix => "invalid prefix",
+            Reason::UnlistedMark => "a policy can't mark links with the attribute",
         }
     }
 }
@@ -72,31 +72,29 @@ impl Reason {
 impl fmt::Display for Reason {
     fn fmt<W: fmt::Write>(&self, f: &mut fmt::Formatter<W>) -> fmt::Result {
         f.write_str(match self {
-            Reason::MalformedTag => "a name is a letter of a-z, and then letters and digits",
-            Reason::OpaqueTag => "what stands in it is no markup of HTML",
-            Reason::StructuralTag => "it changes what is around it, or loads what is no page",
-            Reason::MalformedKey => "a key is a letter of a-z, and then letters and `-`",
+            Reason::MalformedTag => "expected a letter a-z, then letters and digits",
+            Reason::OpaqueTag => "its content isn't HTML markup",
+            Reason::StructuralTag => "it affects the page around it, or loads other content",
+            Reason::MalformedKey | Reason::MalformedPrefix => {
+                "expected a letter a-z, then letters and `-`"
+            }
             Reason::ScriptKey => "its value is a script",
-            Reason::ActiveKey => "its value is no name, text or link",
-            Reason::LinkKey => "it holds links, and is no link key",
+            Reason::ActiveKey => "its value isn't a name, text or URL",
+            Reason::LinkKey => "its value is a URL, so it has to be a link attribute too",
             Reason::MalformedLink => {
-                "a link begins with printable ASCII without spaces, `\"`, `<` and `>`"
+                "expected printable ASCII without spaces, `\"`, `<` and `>`"
             },
-            Reason::ActiveScheme => "such links are programs or documents",
-            Reason::NoScheme => {
-                "it is no scheme with its `:`, and no `/`, `#`, `?` or `.` stands first"
+            Reason::ActiveScheme => "such URLs are programs or documents",
+            Reason::NoScheme => "expected a scheme with its `:`, or `/`, `#`, `?` or `.` first",
+            Reason::MalformedClass => "expected no spaces and no `\"`, and `*` only at the end",
+            Reason::UnlistedMark => "it isn't allowed, or is a link attribute",
+            Reason::NoTableBody => {
+                "`tbody`, `thead` or `tfoot` has to be allowed too, or rows lose their text"
             }
-            Reason::MalformedClass => {
-                "a pattern is a word without spaces and `\"`, and a `*` stands at its end alone"
-            }
-            Reason::MalformedPrefix => "a prefix is a letter of a-z, and then letters and `-`",
-            Reason::UnlistedMark => "it is no listed key, or a link key",
-            Reason::NoTableBody =>
-                "`tbody`, `thead` or `tfoot` is missing, so rows lose their texts",
-            Reason::NoRow => "`tr` is missing, so rows lose their texts",
-            Reason::NoCell => "`td` or `th` is missing, so cells lose their texts",
-            Reason::NoCaption => "`caption` is missing, so captions lose their texts",
-            Reason::NoTable => "`table` is missing, in which alone it may stand",
+            Reason::NoRow => "`tr` has to be allowed too, or rows lose their text",
+            Reason::NoCell => "`td` or `th` has to be allowed too, or cells lose their text",
+            Reason::NoCaption => "`caption` has to be allowed too, or captions lose their text",
+            Reason::NoTable => "`table` has to be allowed too, as it belongs in one",
         })
     }
 }

@@ -3,13 +3,13 @@ use crate::error::{Cause, SelectorError};
 use crate::text::byte_class::is_name_byte;
 use std::fmt;
 
-const NO_STATES: &str = "a page has no states";
+const NO_STATES: &str = "a parsed page has no such state";
 
-const COLON: &str = "a colon in a name is written `\\:`";
+const COLON: &str = "write `\\:` for a colon in a name";
 
-const QUOTES: &str = "a value that is no name stands in quotes";
+const QUOTES: &str = "put the value in quotes";
 
-const QUOTES_OR_ESCAPE: &str = "it may stand in quotes in a value, and behind `\\` in a name";
+const QUOTES_OR_ESCAPE: &str = "put a value in quotes; in a name write `\\` before it";
 
 // What to do in place of pseudo-classes that browsers have.
 static PSEUDO_CLASSES: [(&str, &str); 14] = [
@@ -26,13 +26,15 @@ static PSEUDO_CLASSES: [(&str, &str); 14] = [
     ("disabled", "write `[disabled]`"),
     ("enabled", "write `:not([disabled])`"),
     ("required", "write `[required]`"),
-    ("contains", "there is no test of texts"),
+    ("contains", "elements can't be matched by their text"),
 ];
 
 /// An error with the word that stands where the text is wrong, and what to write in its place.
 #[derive(Clone, Copy)]
 pub struct Described<'a> {
     error: SelectorError,
+    // What is written before the word.
+    joint: &'static str,
     word: &'a str,
     hint: &'static str,
 }
@@ -41,18 +43,33 @@ impl SelectorError {
     /// The error, with the word of the refused text that stands at its place, and a hint where
     /// there is one.
     pub fn describe(self, text: &str) -> Described<'_> {
-        let (word, hint) = match self {
+        let (joint, word, hint) = match self {
             SelectorError::Text { at, cause } => {
                 let word = word_at(text, at);
-                (word, hint(cause, word))
+                (joint(cause), word, hint(cause, word))
             }
-            SelectorError::OutOfMemory => ("", ""),
+            SelectorError::OutOfMemory => ("", "", ""),
         };
         Described {
             error: self,
+            joint,
             word,
             hint,
         }
+    }
+}
+
+// What is written between a cause and the word that is found.
+fn joint(cause: Cause) -> &'static str {
+    match cause {
+        Cause::NoSelector
+        | Cause::NoName
+        | Cause::NoOperator
+        | Cause::NoValue
+        | Cause::NoFlag
+        | Cause::NoFormula
+        | Cause::NeedsArgument => ", found",
+        _ => ":",
     }
 }
 
@@ -73,7 +90,7 @@ fn hint(cause: Cause, word: &str) -> &'static str {
         Cause::NoOperator if word == "!" => "write `:not([key=value])`",
         Cause::NoValue if !word.is_empty() && word != "]" => QUOTES,
         Cause::NoName | Cause::NoFlag | Cause::Unexpected if is_in_names(word) => QUOTES_OR_ESCAPE,
-        Cause::Namespace => "a bar in a name is written `\\|`",
+        Cause::Namespace => "write `\\|` for a bar in a name",
         _ => "",
     }
 }
@@ -101,7 +118,7 @@ impl fmt::Display for Described<'_> {
         if self.word.is_empty() {
             return write!(f, "{}", self.error);
         }
-        write!(f, "{}: `{}`", self.error, self.word)?;
+        write!(f, "{}{} `{}`", self.error, self.joint, self.word)?;
         if self.hint.is_empty() {
             return Ok(());
         }
