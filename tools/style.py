@@ -6,7 +6,7 @@ from .workspace import ROOT, Workspace, text_of
 
 STYLE = "docs/STYLE.md"
 # The port keeps its own terms; the list itself shows what it forbids.
-APART = {STYLE, "docs/GRAMMAR.md", "docs/TRAPS.md", "docs/DIFFERENCES.md"}
+APART = {STYLE, "docs/GRAMMAR.md", "docs/DIFFERENCES.md"}
 HELP = "tl_commands"
 # Sources with messages: they write `Display`, or have them as constants.
 MESSAGES = re.compile(r"impl (?:fmt::)?Display for|const [A-Z_]*: &(?:'static )?str")
