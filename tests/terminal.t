@@ -120,3 +120,20 @@ What is said of a page takes its place, whatever that is.
   [Ktl: file 1 of 104
   8
   [Ktl: bytes: invalid UTF-8 at byte 0; --encoding names the encoding
+
+A terminal gets no control characters of a page: `?` stands for one, and U+00BF for one from U+0080 to U+009F. What is no terminal gets them.
+
+  $ printf '<p>a\033[31m\302\233c\010&#13;d' >control.html
+  $ python3 terminal.py 'tl select -t p control.html' | od -An -c
+     a   ?   [   3   1   m 302 277   c   ?   ?   d  \r  \n
+  $ tl select -t p control.html | od -An -c
+     a 033   [   3   1   m 302 233   c  \b  \r   d  \n
+  $ printf 'a\r\n<p>\033</p>' >returns.html
+  $ python3 terminal.py 'tl set p id x returns.html' | od -An -c
+     a  \r  \r  \n   <   p       i   d   =   "   x   "   >   ?   <
+     /   p   >
+  $ printf '<p>\033</p>' | tl set p id x | od -An -c
+     <   p       i   d   =   "   x   "   > 033   <   /   p   >
+  $ printf '<x\033>a' >tag.html
+  $ python3 terminal.py 'tl sanitize --removed tag.html >said' | grep -c '<x?>'
+  1

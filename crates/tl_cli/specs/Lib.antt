@@ -2,3 +2,4 @@ pub mod Task
 pub mod Filename
 pub mod Reports
 pub mod UsageErrors
+pub mod Visible

@@ -27,6 +27,7 @@ mod telling;
 mod terminal;
 mod texts;
 mod unread;
+mod visible;
 
 use args::{Action, Args, Pages, UsageError, read};
 use caret::Caret;

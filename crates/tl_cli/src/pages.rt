@@ -11,6 +11,7 @@ use crate::job::Job;
 use crate::reports::{Answer, Report, Tally, status_of};
 use crate::task::{Made, Unmade};
 use crate::unread::{report_media, report_unread};
+use crate::visible::visible;
 use std::alloc::{AllocError, Global};
 use std::fs::File;
 use std::io::{ErrorKind, IsTerminal, Read, Write};
@@ -108,6 +109,26 @@ pub fn unwritten_status(rt: &HostRuntime, error: &io::Error) -> u8 {
     Tally::new().with_answer(unwritten(rt, error)).status(false)
 }
 
+// What a page says, without the control characters that a terminal obeys where one gets it.
+fn shown(rt: &HostRuntime, bytes: Vec<u8>) -> Result<Vec<u8>, AllocError> {
+    if rt.stdout().is_terminal() {
+        visible(rt.alloc(), &bytes)
+    } else {
+        Ok(bytes)
+    }
+}
+
+/// Writes to standard output what a page says, without the control characters that a terminal
+/// obeys where it is one.
+pub fn write_shown(rt: &HostRuntime, bytes: &[u8]) -> Result<io::Result<()>, AllocError> {
+    if rt.stdout().is_terminal() {
+        let shown = visible(rt.alloc(), bytes)?;
+        Ok(write(rt, &shown))
+    } else {
+        Ok(write(rt, bytes))
+    }
+}
+
 // Bytes with the name of their file before each line, where there are several.
 fn named_text(
     rt: &HostRuntime,
@@ -134,7 +155,7 @@ fn page_output(
     output: Output,
 ) -> Result<Vec<u8>, Failure> {
     match pages.writing {
-        Writing::Answers => named_text(rt, job, pages, file, output.bytes),
+        Writing::Answers => named_text(rt, job, pages, file, shown(rt, output.bytes)?),
         Writing::Names if output.is_found => {
             let end = pages.end();
             let [start, _, end_of_name] = pages.terminal.name_colors();
@@ -245,8 +266,14 @@ pub fn unmade(rt: &HostRuntime, file: &str, text: &[u8], why: Unmade) -> Result<
 }
 
 // Says on standard error what is told beside a page.
-fn tell(rt: &HostRuntime, told: &[u8]) {
-    let _ = rt.stderr().write_all(told);
+fn tell(rt: &HostRuntime, told: &[u8]) -> Result<(), AllocError> {
+    if rt.stderr().is_terminal() {
+        let shown = visible(rt.alloc(), told)?;
+        let _ = rt.stderr().write_all(&shown);
+    } else {
+        let _ = rt.stderr().write_all(told);
+    }
+    Ok(())
 }
 
 // What comes of the text of a page.
@@ -268,7 +295,7 @@ fn process_text(
     let is_found = output.is_found;
     let written = page_output(rt, job, pages, file, output)?;
     pages.terminal.clear(rt);
-    tell(rt, &told);
+    tell(rt, &told)?;
     match write(rt, &written) {
         Ok(()) if is_found => Ok(Answer::Found),
         Ok(()) => Ok(Answer::Nothing),

@@ -11,7 +11,7 @@ use crate::own_bytes::{
 };
 use crate::pages::{
     STANDARD_INPUT, no_text, not_understood, page_of, report, report_error, report_failure, unmade,
-    unwritten, write,
+    unwritten, write_shown,
 };
 use crate::position::Position;
 use crate::reports::{Answer, Report, status_of};
@@ -77,12 +77,12 @@ fn place_lines(
 }
 
 // Writes to standard output what comes of a page.
-fn write_answer(rt: &HostRuntime, is_found: bool, bytes: &[u8]) -> Answer {
-    match write(rt, bytes) {
+fn write_answer(rt: &HostRuntime, is_found: bool, bytes: &[u8]) -> Result<Answer, AllocError> {
+    Ok(match write_shown(rt, bytes)? {
         Ok(()) if is_found => Answer::Found,
         Ok(()) => Answer::Nothing,
         Err(error) => unwritten(rt, &error),
-    }
+    })
 }
 
 // Puts the bytes of a page with changes into its file. Where they stay the file isn't touched.
@@ -127,7 +127,7 @@ fn put_diff(
         Target::Output | Target::Nowhere => Answer::Found,
     };
     match answer {
-        Answer::Found => Ok(write_answer(rt, true, diff.as_slice())),
+        Answer::Found => write_answer(rt, true, diff.as_slice()),
         _ => Ok(answer),
     }
 }
@@ -143,12 +143,12 @@ fn put_page(
 ) -> Result<Answer, AllocError> {
     let is_found = !patched.places.is_empty();
     match target {
-        Target::Output => Ok(write_answer(rt, is_found, bytes)),
+        Target::Output => write_answer(rt, is_found, bytes),
         Target::Files(suffix) => Ok(write_file(rt, file, *suffix, page, patched, bytes)),
         Target::Nowhere => {
             let places = patched.places.as_slice();
             let lines = place_lines(rt.alloc(), file, page.text.as_str(), places)?;
-            Ok(write_answer(rt, is_found, lines.as_bytes()))
+            write_answer(rt, is_found, lines.as_bytes())
         }
     }
 }
