@@ -38,7 +38,7 @@ docs/COMMANDS.md, `tl`:
   a.html
   $ tl select -q form x.html || echo 'no form'
   no form
-  $ tl select --json -m1 p a.html b.html
+  $ tl select --jsonl -m1 p a.html b.html
   {"file":"a.html","attributes":{},"name":"p","node":3,"start":0,"end":3,"text":""}
   {"file":"b.html","attributes":{},"name":"p","node":3,"start":0,"end":3,"text":"y"}
 

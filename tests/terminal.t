@@ -15,7 +15,7 @@ Names of files have colours.
   \x1b[35mb.html\x1b[0m\x0d (esc)
   $ python3 terminal.py 'tl select -t p a.html 2>said'
   x\x0d (esc)
-  $ python3 terminal.py 'tl select --json p a.html b.html 2>said'
+  $ python3 terminal.py 'tl select --jsonl p a.html b.html 2>said'
   {"file":"a.html","attributes":{},"name":"p","node":3,"start":0,"end":3,"text":"x"}\x0d (esc)
   {"file":"b.html","attributes":{},"name":"p","node":3,"start":0,"end":3,"text":"y"}\x0d (esc)
   {"file":"b.html","attributes":{},"name":"p","node":5,"start":4,"end":7,"text":"z"}\x0d (esc)

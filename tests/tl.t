@@ -518,9 +518,7 @@ Nothing was found, or something is refused or not understood.
   ...
   [2]
   $ tl select --tree p
-  error: the following required arguments were not provided: (err)
-    --json (err)
-  ...
+  tl: --tree needs --json or --jsonl (err)
   [2]
   $ tl select -c --tree p
   error: the argument '--count' cannot be used with '--tree' (err)
@@ -601,36 +599,51 @@ Pages in files.
   $ tl select i one two
   [1]
   $ tl select --json i one two
+  []
+  []
+  [1]
+  $ tl select --jsonl i one two
   [1]
   $ tl text -w one
   one
   $ tl select --no-name -t0 p one two
   one\x00two (esc)
   \x00 (esc) (no-eol)
-  $ tl select --json p one two
+  $ tl select --jsonl p one two
   {"file":"one","attributes":{},"name":"p","node":3,"start":0,"end":3,"text":"one"}
   {"file":"two","attributes":{},"name":"p","node":3,"start":0,"end":3,"text":"two\n"}
-  $ tl select --json --tree p one two
+  $ tl select --jsonl --tree p one two
   {"file":"one","attributes":{},"name":"p","node":3,"start":0,"end":3,"children":[{"attributes":{},"name":null,"node":4,"start":3,"end":6,"text":"one"}]}
   {"file":"two","attributes":{},"name":"p","node":3,"start":0,"end":3,"children":[{"attributes":{},"name":null,"node":4,"start":3,"end":7,"text":"two\n"},{"attributes":{},"name":"b","node":5,"start":7,"end":10,"children":[]}]}
-  $ tl select --json --tree --no-name b one two
+  $ tl select --json --tree b one two
   []
   [{"attributes":{},"name":"b","node":5,"start":7,"end":10,"children":[]}]
+  $ tl select --jsonl --with-name b - <two
+  {"file":"-","attributes":{},"name":"b","node":5,"start":7,"end":10,"text":""}
+  $ tl select --json --with-name b two
+  [{"attributes":{},"name":"b","node":5,"start":7,"end":10,"text":""}]
+  $ tl select --with-name -t p one; tl links --with-name - <one; tl text --with-name one
+  one:one
+  one:one
+  $ tl select --with-name --no-name p one 2>&1 | head -1
+  error: the argument '--with-name' cannot be used with '--no-name'
+  $ tl select --json --jsonl p one 2>&1 | head -1
+  error: the argument '--json' cannot be used with '--jsonl'
   $ tl select --json --tree -l b one two
   two
-  $ tl select --json --no-name p one two
+  $ tl select --json p one two
   [{"attributes":{},"name":"p","node":3,"start":0,"end":3,"text":"one"}]
   [{"attributes":{},"name":"p","node":3,"start":0,"end":3,"text":"two\n"}]
-  $ tl select --json -m1 'p, b' one two -
+  $ tl select --jsonl -m1 'p, b' one two -
   {"file":"one","attributes":{},"name":"p","node":3,"start":0,"end":3,"text":"one"}
   {"file":"two","attributes":{},"name":"p","node":3,"start":0,"end":3,"text":"two\n"}
-  $ tl select --json -0 p one two
+  $ tl select --jsonl -0 p one two
   {"file":"one","attributes":{},"name":"p","node":3,"start":0,"end":3,"text":"one"}
   {"file":"two","attributes":{},"name":"p","node":3,"start":0,"end":3,"text":"two\n"}
-  $ cp one 'a "b"' && tl select --json p one 'a "b"' && rm 'a "b"'
+  $ cp one 'a "b"' && tl select --jsonl p one 'a "b"' && rm 'a "b"'
   {"file":"one","attributes":{},"name":"p","node":3,"start":0,"end":3,"text":"one"}
   {"file":"a \"b\"","attributes":{},"name":"p","node":3,"start":0,"end":3,"text":"one"}
-  $ tl select --json b one two
+  $ tl select --jsonl b one two
   {"file":"two","attributes":{},"name":"b","node":5,"start":7,"end":10,"text":""}
   $ tl select -t0 p one two
   one:one\x00two:two (esc)
@@ -974,16 +987,19 @@ Help names each command and each option, and words the lists.
   --help
   --inside
   --json
+  --jsonl
   --max-count
   --no-name
   --null
   --number
   --quiet
+  --source
   --strict
   --text
   --tree
   --tsv
   --where
+  --with-name
   $ tl sanitize --help >help && grep -oE -e '--[a-z-]+' help | sort -u
   --classes
   --comments
@@ -1001,6 +1017,7 @@ Help names each command and each option, and words the lists.
   --removed
   --strict
   --tags
+  --with-name
   $ for command in set unset rename remove unwrap replace fill prepend append before after; do tl $command --help; done | grep -oE -e '--[a-z-]+' | sort -u
   --add-word
   --backup

@@ -8,6 +8,7 @@ use Rattle.tl_answers.specs.LinkLines.{link_lines}
 use Rattle.tl_answers.specs.Lines.{comment_lines, comments_inside, field_lines, line_ended, readable_lines}
 use Rattle.tl_answers.specs.Objects.{array_line}
 use Rattle.tl_answers.specs.Places.{placed_lines}
+use Rattle.tl_answers.specs.SourceLines.{source_lines}
 use Rattle.tl_answers.specs.Records.{record_lines}
 use Rattle.tl_answers.specs.Tables.{AskedTable, IsLargeAt, asked_table, table_lines}
 use Rattle.tl_answers.specs.declared.error.AnswerError.{AnswerError}
@@ -16,7 +17,7 @@ use Rattle.tl_answers.specs.declared.error.AnswerError.TheVariants.{LargeTable, 
 use Rattle.tl_answers.specs.declared.question.Question.{Question}
 use Rattle.tl_answers.specs.declared.question.Question.TheVariants.{Comments, Links, Outline, PrettyPrint, Print, Readable, Select, Table, Text}
 use Rattle.tl_answers.specs.declared.selection.Listing.{Listing}
-use Rattle.tl_answers.specs.declared.selection.Listing.TheVariants.{Comments as InsideComments, Count, Fields, Lines, Objects, Placed, Readable as InsideReadable, Records}
+use Rattle.tl_answers.specs.declared.selection.Listing.TheVariants.{Comments as InsideComments, Count, Fields, Lines, Objects, Placed, Readable as InsideReadable, Records, Sources}
 use Rattle.tl_answers.specs.declared.selection.Query.{Query}
 use Rattle.tl_css.specs.Selector.{Css}
 use Rattle.tl_dom_spec.specs.HtmlForest.{HtmlForest}
@@ -57,6 +58,8 @@ listing_of (InsideReadable but) end trees sources page numbers out =
     of_nodes numbers (readable_lines (marks_in (rows_of trees) out) (rows_of trees) numbers)
 listing_of InsideComments end trees sources page numbers out =
     listed (comments_inside end (rows_of trees) numbers)
+listing_of Sources end trees sources page numbers out =
+    listed (source_lines end sources page numbers)
 listing_of (Records own) end trees sources page numbers out =
     listed (record_lines own (rows_of trees) numbers)
 listing_of Count end trees sources page numbers out = number_line end (length numbers)
@@ -71,6 +74,7 @@ but_of (Fields field) = None
 but_of (Placed field) = None
 but_of (InsideReadable but) = option_copied but
 but_of InsideComments = None
+but_of Sources = None
 but_of (Records own) = None
 but_of Count = None
 but_of (Objects form) = None

@@ -6,6 +6,7 @@ pub mod Urls
 pub mod LinkLines
 pub mod Records
 pub mod Places
+pub mod SourceLines
 pub mod Objects
 pub mod Tables
 pub mod Answers

@@ -17,6 +17,7 @@ mod prints;
 mod question;
 mod records;
 mod selection;
+mod sources;
 mod tables;
 
 pub use edit::{Edit, Refusal};

@@ -16,6 +16,7 @@ use crate::objects::{object_array, object_lines};
 use crate::output::Output;
 use crate::places::placed_lines;
 use crate::records::{Records, record_lines};
+use crate::sources::source_lines;
 use std::alloc::{AllocError, Global};
 use tl_css::Selector;
 use tl_tree::Tree;
@@ -34,6 +35,8 @@ pub enum Listing<'w> {
     Readable(Option<&'w Selector>),
     /// The comments below each.
     Comments,
+    /// The bytes of the page that the tags of each enclose.
+    Sources,
     /// Values of each in columns.
     Records(Records<'w>),
     /// How many there are.
@@ -86,6 +89,7 @@ fn list(
             readable_lines(alloc, tree, &marks, numbers)
         }
         Listing::Comments => comments_inside(alloc, tree, numbers, end),
+        Listing::Sources => source_lines(alloc, tree, page, numbers, end),
         Listing::Records(own) => record_lines(alloc, tree, numbers, *own),
         Listing::Count => count_line(alloc, numbers.len(), end),
         Listing::Objects(form) => object_array(alloc, tree, numbers, *form, end),

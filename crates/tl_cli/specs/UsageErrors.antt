@@ -1,11 +1,11 @@
 -- Why nothing is made.
 use Rattle.tl_cli.specs.declared.args.UsageError.{UsageError}
-use Rattle.tl_cli.specs.declared.args.UsageError.TheVariants.{Clap, NoCommand, NoNumber, NoTable, NoSelector, NoKey, NoName, NoFile, NoSuffix, NoEncoding, NoValue, NoWord, NoLiteral, NoRegex, NoUrl, NoNames, NoColumn, NoPlace, InputTwice, OutOfMemory}
+use Rattle.tl_cli.specs.declared.args.UsageError.TheVariants.{Clap, NoCommand, NoNumber, NoTable, NoSelector, NoKey, NoName, NoFile, NoSuffix, NoEncoding, NoValue, NoWord, NoLiteral, NoRegex, NoUrl, NoNames, NoColumn, NoJson, NoPlace, InputTwice, OutOfMemory}
 
 -- a word is no selector or number, a key or a name can't be written, no value is said, nor what
--- columns are of, or places are asked for beside these, a word of a value or what is to be replaced
--- is none, a text is no URL or no pattern of names, standard input has no file or is meant twice, a
--- suffix is empty, or a label is of no encoding
+-- columns are of, or places are asked for beside these, or trees without JSON, a word of a value or
+-- what is to be replaced is none, a text is no URL or no pattern of names, standard input has no
+-- file or is meant twice, a suffix is empty, or a label is of no encoding
 abbrev pub IsWrongWord : UsageError → Type 0
 IsWrongWord (Clap error) = ⊥
 IsWrongWord NoCommand = ⊥
@@ -25,5 +25,6 @@ IsWrongWord InputTwice = Unit {0}
 IsWrongWord NoSuffix = Unit {0}
 IsWrongWord NoColumn = Unit {0}
 IsWrongWord NoPlace = Unit {0}
+IsWrongWord NoJson = Unit {0}
 IsWrongWord (NoEncoding label) = Unit {0}
 IsWrongWord OutOfMemory = ⊥

@@ -20,7 +20,7 @@ use tl_commands::{Verb, program};
 use tl_css::{Selector, SelectorError, parse};
 use tl_encoding::Encoding;
 use tl_page::VERSION;
-use tl_tree_extract::{Columns, Spans};
+use tl_tree_extract::{Columns, JsonForm, Spans};
 use tl_tree_safe::{ListTexts, Lists};
 use url::{ParseError, Url};
 
@@ -45,6 +45,15 @@ pub enum Telling {
     Label(Encoding),
 }
 
+/// Whether the names of files are written.
+#[derive(Clone, Copy)]
+pub enum Naming {
+    Never,
+    /// Where there are several, or each line says where it stands.
+    OfSeveral,
+    Always,
+}
+
 /// The pages, and how what is made of them is written.
 #[derive(Drop)]
 pub struct Pages<'w> {
@@ -52,8 +61,8 @@ pub struct Pages<'w> {
     pub files: Vec<&'w str>,
     /// Whether each answer ends with a byte 0, and not with a line feed.
     pub ends_with_zero: bool,
-    /// Whether the name of its file stands before each line, where there are several.
-    pub has_names: bool,
+    /// Whether the name of its file stands before each line.
+    pub naming: Naming,
     /// Whether what is written says where it stands, so that the name is said of one file too.
     pub has_places: bool,
     /// What is written of them.
@@ -68,8 +77,12 @@ pub struct Pages<'w> {
 impl Pages<'_> {
     /// Whether the names of files are said beside what is made of them.
     pub fn are_named(&self) -> bool {
-        let least = if self.has_places { 1 } else { 2 };
-        self.has_names && self.files.len() >= least
+        match self.naming {
+            Naming::Never => false,
+            Naming::OfSeveral if self.has_places => !self.files.is_empty(),
+            Naming::OfSeveral => self.files.len() > 1,
+            Naming::Always => true,
+        }
     }
 
     /// What ends each answer.
@@ -139,6 +152,8 @@ pub enum UsageError<'w> {
     NoColumn,
     /// Places are asked for beside columns.
     NoPlace,
+    /// What is in nodes is asked for, and no JSON that has it.
+    NoJson,
     /// A label of no encoding.
     NoEncoding(&'w str),
     /// A word that is no number of nodes.
@@ -181,20 +196,31 @@ fn writing_of(matches: &ArgMatches<'_>) -> Writing {
     }
 }
 
+// What an object has of what is in its node.
+fn json_form(matches: &ArgMatches<'_>) -> JsonForm {
+    if matches.get_flag("tree") {
+        JsonForm::Nested
+    } else {
+        JsonForm::Flat
+    }
+}
+
 // What is written of each node where the nodes themselves are.
 fn wanted_answers(matches: &ArgMatches<'_>) -> Wanted {
     if matches.get_flag("count") {
         Wanted::Count
-    } else if matches.get_flag("tree") {
-        Wanted::Trees
     } else if matches.get_flag("json") {
-        Wanted::Objects
+        Wanted::Objects(json_form(matches))
+    } else if matches.get_flag("jsonl") {
+        Wanted::Lines(json_form(matches))
     } else if matches.get_str("attribute").is_some() {
         Wanted::Value
     } else if matches.get_flag("text") {
         Wanted::Text
     } else if matches.get_flag("inside") {
         Wanted::InnerHtml
+    } else if matches.get_flag("source") {
+        Wanted::Source
     } else if matches.get_flag("number") {
         Wanted::Number
     } else {
@@ -221,6 +247,9 @@ fn wanted<'w>(matches: &ArgMatches<'w>, keys: usize) -> Result<Wanted, UsageErro
     }
     if columns.is_some() && matches.get_flag("where") {
         return Err(UsageError::NoPlace);
+    }
+    if matches.get_flag("tree") && !matches.get_flag("json") && !matches.get_flag("jsonl") {
+        return Err(UsageError::NoJson);
     }
     Ok(match (writing_of(matches), columns) {
         (Writing::Answers, Some(columns)) => Wanted::Records(columns, has_text),
@@ -459,6 +488,17 @@ fn told_encoding<'w>(matches: &ArgMatches<'w>) -> Result<Telling, UsageError<'w>
     }
 }
 
+// Whether the names of files are written.
+fn naming_of(matches: &ArgMatches<'_>) -> Naming {
+    if matches.get_flag("no-name") {
+        Naming::Never
+    } else if matches.get_flag("with-name") {
+        Naming::Always
+    } else {
+        Naming::OfSeveral
+    }
+}
+
 // The pages of a command.
 fn pages_of<'w>(
     matches: &ArgMatches<'w>,
@@ -468,7 +508,7 @@ fn pages_of<'w>(
     Ok(Pages {
         files,
         ends_with_zero: matches.get_flag("null"),
-        has_names: !matches.get_flag("no-name"),
+        naming: naming_of(matches),
         has_places: matches.get_flag("where"),
         writing: writing_of(matches),
         encoding: told_encoding(matches)?,

@@ -3,7 +3,8 @@ use crate::args::Pages;
 use crate::selected::Selected;
 use crate::task::{Made, Task, Unmade, execute, told_page};
 use std::alloc::Global;
-use tl_answers::{Key, Output};
+use tl_answers::{Key, Output, Question};
+use tl_tree_extract::Columns;
 use tl_tree_safe::Policy;
 
 /// What is done with each page.
@@ -26,11 +27,20 @@ fn untold(alloc: Global, output: Result<Output, Unmade>) -> Result<Made, Unmade>
 }
 
 impl Job<'_, '_> {
-    /// Whether what is made says itself which file it is of, where files are named.
-    pub fn says_names(&self) -> bool {
+    /// Whether no name of a file stands before what is made, whose lines would be no JSON.
+    pub fn is_without_names(&self) -> bool {
         match self {
             Job::Task(_) | Job::Removed(_) => false,
             Job::Select(selected, _) => selected.wanted.is_json(),
+        }
+    }
+
+    /// How values are told apart, where what is made has them in columns.
+    pub fn columns(&self) -> Option<Columns> {
+        match self {
+            Job::Select(selected, _) => selected.wanted.columns(),
+            Job::Task(Task::Ask(Question::Table(table))) => Some(table.columns),
+            Job::Task(_) | Job::Removed(_) => None,
         }
     }
 
@@ -45,8 +55,7 @@ impl Job<'_, '_> {
         match self {
             Job::Task(task) => untold(alloc, execute(alloc, task, pages.end(), text)),
             Job::Select(selected, keys) => {
-                let name = if pages.are_named() { Some(file) } else { None };
-                let task = Task::Ask(selected.question(keys, name));
+                let task = Task::Ask(selected.question(keys, file));
                 untold(alloc, execute(alloc, &task, pages.end(), text))
             }
             Job::Removed(policy) => told_page(alloc, policy, file, text),

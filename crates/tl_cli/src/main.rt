@@ -27,6 +27,7 @@ mod telling;
 mod terminal;
 mod texts;
 mod unread;
+mod usage;
 mod visible;
 
 use args::{Action, Args, Pages, UsageError, read};
@@ -167,55 +168,10 @@ fn report_usage_error(rt: &HostRuntime, usage_error: &UsageError<'_>) -> Result<
         UsageError::Clap(error) => return print_clap_error(rt, error),
         UsageError::OutOfMemory => return Err(report_failure(rt, "words", Failure::OutOfMemory)),
         UsageError::NoCommand => return Err(report_failure(rt, "words", Failure::NotUnderstood)),
-        UsageError::NoNumber(word) => {
-            let _ = eprintln!(rt; "tl: invalid number for --max-count: {word}");
-        }
-        UsageError::NoKey(key) => {
-            let _ = eprintln!(rt; "tl: invalid attribute name: {key}");
-        }
-        UsageError::NoName(name) => {
-            let _ = eprintln!(rt; "tl: invalid element name: {name}");
-        }
-        UsageError::NoValue => {
-            let _ = eprintln!(rt; "tl: VALUE is missing: give it, or an option that makes it");
-        }
-        UsageError::NoWord(word) => {
-            let _ = eprintln!(rt; "tl: not one word: '{word}'");
-        }
-        UsageError::NoLiteral => {
-            let _ = eprintln!(rt; "tl: --replace: the text to replace is empty");
-        }
-        UsageError::NoRegex(error, text) => {
-            let _ = eprintln!(rt; "tl: invalid regular expression: {text}: {error}");
-        }
-        UsageError::NoNames(text) => {
-            let _ = eprintln!(rt; "tl: invalid pattern, which may have one * in it: '{text}'");
-        }
-        UsageError::InputTwice => {
-            let _ = eprintln!(rt; "tl: standard input can't be both the page and what is put in");
-        }
-        UsageError::NoFile => {
-            let _ = eprintln!(rt; "tl: -i needs files: standard input can't be edited in place");
-        }
-        UsageError::NoSuffix => {
-            let _ = eprintln!(rt; "tl: --backup: the suffix is empty");
-        }
-        UsageError::NoTable(word) => {
-            let _ = eprintln!(rt; "tl: invalid number of a table: {word} (the first is 1)");
-        }
-        UsageError::NoUrl(error, text) => {
-            let _ = eprintln!(rt; "tl: invalid URL: {text}: {error}");
-        }
-        UsageError::NoPlace => {
-            let _ = eprintln!(rt; "tl: --where can't be used with several columns");
-        }
-        UsageError::NoColumn => {
-            let _ = eprintln!(rt; "tl: no column: give -a NAME or -t");
-        }
-        UsageError::NoEncoding(label) => {
-            let _ = eprintln!(rt; "tl: unknown encoding: {label}");
-        }
         UsageError::NoSelector(error, text) => report_selector(rt, error, text),
+        _ => {
+            let _ = eprintln!(rt; "tl: {usage_error}");
+        }
     }
     Err(Failure::NotUnderstood)
 }

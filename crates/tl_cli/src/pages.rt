@@ -6,7 +6,7 @@ ghost use Rattle.tl_cli.specs.Reports.{AreReports};
 ghost use Rattle.tl_cli.specs.declared.reports.Answer.TheVariants.{Failed};
 
 use crate::args::{Pages, Telling, Writing};
-use crate::filename::with_prefix;
+use crate::filename::{named_records, with_prefix};
 use crate::job::Job;
 use crate::reports::{Answer, Report, Tally, status_of};
 use crate::task::{Made, Unmade};
@@ -129,7 +129,7 @@ pub fn write_shown(rt: &HostRuntime, bytes: &[u8]) -> Result<io::Result<()>, All
     }
 }
 
-// Bytes with the name of their file before each line, where there are several.
+// Bytes with the name of their file before each line or record, where there are several.
 fn named_text(
     rt: &HostRuntime,
     job: &Job<'_, '_>,
@@ -137,8 +137,11 @@ fn named_text(
     file: &str,
     bytes: Vec<u8>,
 ) -> Result<Vec<u8>, Failure> {
-    if !pages.are_named() || job.says_names() {
+    if !pages.are_named() || job.is_without_names() {
         return Ok(bytes);
+    }
+    if let Some(columns) = job.columns() {
+        return Ok(named_records(rt.alloc(), columns, file, &bytes)?);
     }
     let [start, middle, end_of_name] = pages.terminal.name_colors();
     let name = format!(in rt.alloc(); "{start}{file}{middle}:{end_of_name}")?;

@@ -9,16 +9,18 @@ use tl_tree_extract::{Columns, JsonForm};
 pub enum Wanted {
     /// How many there are.
     Count,
-    /// An object of JSON for each.
-    Objects,
-    /// The same with the nodes below it, as a tree.
-    Trees,
+    /// An object of JSON for each, those of a page as an array.
+    Objects(JsonForm),
+    /// An object of JSON for each on a line of its own, which says its file.
+    Lines(JsonForm),
     /// The number of each.
     Number,
     /// The markup of each.
     OuterHtml,
     /// The markup of what is inside.
     InnerHtml,
+    /// The bytes of the page that the tags of each enclose.
+    Source,
     /// What the texts below each say.
     Text,
     /// The value of each at a key.
@@ -28,18 +30,17 @@ pub enum Wanted {
 }
 
 impl Wanted {
-    // How nodes are written as JSON, if they are.
-    fn json_form(self) -> Option<JsonForm> {
+    /// How values are told apart, where nodes are written in columns.
+    pub fn columns(self) -> Option<Columns> {
         match self {
-            Wanted::Objects => Some(JsonForm::Flat),
-            Wanted::Trees => Some(JsonForm::Nested),
+            Wanted::Records(columns, _) => Some(columns),
             _ => None,
         }
     }
 
     /// Whether nodes are written as JSON.
     pub fn is_json(self) -> bool {
-        self.json_form().is_some()
+        matches!(self, Wanted::Objects(_) | Wanted::Lines(_))
     }
 }
 
@@ -101,15 +102,12 @@ impl Selected<'_> {
     }
 
     // What is written of the nodes of a file.
-    fn listing<'k>(&self, keys: &'k [Key<'k>], file: Option<&'k str>) -> Listing<'k> {
-        if let Some(form) = self.wanted.json_form() {
-            return match file {
-                Some(file) => Listing::Lines(form, file),
-                None => Listing::Objects(form),
-            };
-        }
+    fn listing<'k>(&self, keys: &'k [Key<'k>], file: &'k str) -> Listing<'k> {
         match self.wanted {
+            Wanted::Objects(form) => Listing::Objects(form),
+            Wanted::Lines(form) => Listing::Lines(form, file),
             Wanted::Count => Listing::Count,
+            Wanted::Source => Listing::Sources,
             Wanted::Records(columns, has_text) => Listing::Records(Records {
                 keys,
                 has_text,
@@ -120,8 +118,8 @@ impl Selected<'_> {
         }
     }
 
-    /// What is asked, where these are its keys. An object of a file that is named says its name.
-    pub fn question<'k>(&'k self, keys: &'k [Key<'k>], file: Option<&'k str>) -> Question<'k> {
+    /// What is asked of a file, where these are its keys.
+    pub fn question<'k>(&'k self, keys: &'k [Key<'k>], file: &'k str) -> Question<'k> {
         Question::Select(Query {
             selector: &self.selector,
             most: self.most,

@@ -12,13 +12,23 @@ pub struct Flag {
     pub excludes: &'static [&'static str],
 }
 
-pub const NO_NAME: Flag = Flag {
-    name: "no-name",
-    short: None,
-    value: None,
-    help: "Don't put `FILE:` before lines of several files",
-    excludes: &[],
-};
+/// Whether the names of files are written.
+pub static FILE_NAMES: [Flag; 2] = [
+    Flag {
+        name: "no-name",
+        short: None,
+        value: None,
+        help: "Don't put `FILE:` before lines of several files",
+        excludes: &[],
+    },
+    Flag {
+        name: "with-name",
+        short: None,
+        value: None,
+        help: "Put `FILE:` before the lines of one file too",
+        excludes: &["no-name"],
+    },
+];
 
 /// What pages are in.
 pub const ENCODING: Flag = Flag {
@@ -122,7 +132,7 @@ const TSV: Flag = Flag {
     short: None,
     value: None,
     help: "Columns separated by tabs",
-    excludes: &["inside", "number", "count", "json"],
+    excludes: &["inside", "source", "number", "count", "json", "jsonl"],
 };
 
 const CSV: Flag = Flag {
@@ -130,7 +140,9 @@ const CSV: Flag = Flag {
     short: None,
     value: None,
     help: "Columns separated by commas (RFC 4180)",
-    excludes: &["tsv", "inside", "number", "count", "json"],
+    excludes: &[
+        "tsv", "inside", "source", "number", "count", "json", "jsonl",
+    ],
 };
 
 pub static WHERE: Flag = Flag {
@@ -138,7 +150,7 @@ pub static WHERE: Flag = Flag {
     short: None,
     value: None,
     help: "Put FILE:LINE:COLUMN: before each match",
-    excludes: &["count", "json", "tsv", "csv"],
+    excludes: &["source", "count", "json", "jsonl", "tsv", "csv"],
 };
 
 // How values of nodes are told apart.
@@ -209,7 +221,7 @@ pub static ATTRIBUTE: Flag = Flag {
     short: Some('a'),
     value: Some("NAME"),
     help: "Value of this attribute, where there is one",
-    excludes: &["inside", "number", "count", "json"],
+    excludes: &["inside", "source", "number", "count", "json", "jsonl"],
 };
 
 pub static TEXT: Flag = Flag {
@@ -217,16 +229,23 @@ pub static TEXT: Flag = Flag {
     short: Some('t'),
     value: None,
     help: "Text content",
-    excludes: &["inside", "number", "count", "json"],
+    excludes: &["inside", "source", "number", "count", "json", "jsonl"],
 };
 
 // What else may be written of a node; without one of these its print.
-pub static NODE_FLAGS: [Flag; 4] = [
+pub static NODE_FLAGS: [Flag; 6] = [
     Flag {
         name: "inside",
         short: Some('H'),
         value: None,
         help: "Inner HTML",
+        excludes: &[],
+    },
+    Flag {
+        name: "source",
+        short: None,
+        value: None,
+        help: "The page's own bytes, from tag to end tag",
         excludes: &[],
     },
     Flag {
@@ -250,6 +269,13 @@ pub static NODE_FLAGS: [Flag; 4] = [
         help: "JSON: number, name, attributes, place and text",
         excludes: &[],
     },
+    Flag {
+        name: "jsonl",
+        short: None,
+        value: None,
+        help: "The same, an object a line, with its file",
+        excludes: &[],
+    },
 ];
 
 pub static PRETTY: Flag = Flag {
@@ -264,8 +290,8 @@ pub static TREE: Flag = Flag {
     name: "tree",
     short: None,
     value: None,
-    help: "With --json: children instead of the text",
-    excludes: &["attribute", "text", "inside", "number", "count"],
+    help: "With --json or --jsonl: children, not the text",
+    excludes: &["attribute", "text", "inside", "source", "number", "count"],
 };
 
 const POLICY: Flag = Flag {

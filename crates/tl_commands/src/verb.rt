@@ -1,9 +1,9 @@
 //! The commands.
 use crate::element::ElementVerb;
 use crate::flag::{
-    ATTRIBUTE, BASE, BASES, COLUMNS, DECODING, ENCODING, Flag, HOSTS, LEFT_OUT, LINK_KEY, LISTS,
-    LITERAL, NO_NAME, NODE_FLAGS, NODE_NUMBERS, POLICIES, PRETTY, REPLACE, REWRITES, SEARCH,
-    SELECTION, TABLE_FLAGS, TABLE_NUMBER, TARGETS, TELLINGS, TEXT, TEXT_FLAGS, TREE, WHERE,
+    ATTRIBUTE, BASE, BASES, COLUMNS, DECODING, ENCODING, FILE_NAMES, Flag, HOSTS, LEFT_OUT,
+    LINK_KEY, LISTS, LITERAL, NODE_FLAGS, NODE_NUMBERS, POLICIES, PRETTY, REPLACE, REWRITES,
+    SEARCH, SELECTION, TABLE_FLAGS, TABLE_NUMBER, TARGETS, TELLINGS, TEXT, TEXT_FLAGS, TREE, WHERE,
 };
 use crate::help::{
     ABOUT, LINKS, OUTLINES, PRINTS, PROGRAM, SAFE, SELECTORS, SETTINGS, TABLES, TEXTS, UNSETTINGS,
@@ -140,9 +140,7 @@ impl Verb {
 
     // It over files, without options of its own.
     fn plain_command<'w>(self, alloc: Global) -> Result<Command<'w>, AllocError> {
-        self.bare_command(alloc)
-            .arg(NO_NAME.argument(alloc)?)?
-            .arg(files(alloc))
+        with_flags(alloc, self.bare_command(alloc), &FILE_NAMES)?.arg(files(alloc))
     }
 
     // It over files that may say what they are in.
@@ -188,13 +186,10 @@ fn select<'w>(alloc: Global, command: Command<'w>) -> Result<Command<'w>, AllocE
     let command = command.arg(TEXT.argument(alloc)?)?;
     let command = with_flags(alloc, command, &NODE_FLAGS)?;
     let command = with_flags(alloc, command, &COLUMNS)?.arg(WHERE.argument(alloc)?)?;
-
-    // (what can't stand beside `json` would lift what is required)
-    let tree = TREE.argument(alloc)?.requires_arg("json")?;
+    let command = with_flags(alloc, command, &FILE_NAMES)?;
     command
-        .arg(tree)?
+        .arg(TREE.argument(alloc)?)?
         .group(one_of(alloc, "wanted", &NODE_FLAGS)?)?
-        .arg(NO_NAME.argument(alloc)?)?
         .arg(files(alloc))
 }
 

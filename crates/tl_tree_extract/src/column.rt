@@ -125,8 +125,8 @@ fn put_comma_value(value: &[u8], out: &mut Vec<u8>) -> Result<(), AllocError>
     Ok(())
 }
 
-/// Writes a value.
-pub(crate) fn put_value(columns: Columns, value: &[u8], out: &mut Vec<u8>) -> Result<(), AllocError>
+/// Writes a value, quoted or escaped where it has to be.
+pub fn put_value(columns: Columns, value: &[u8], out: &mut Vec<u8>) -> Result<(), AllocError>
     ensures { OnOk result (out.new.items ≡ out.old.items ++ value_written columns value.now) }
 {
     match columns {
@@ -152,7 +152,7 @@ pub(crate) fn put_first_value(
 }
 
 /// Writes what stands between two values.
-pub(crate) fn put_separator(columns: Columns, out: &mut Vec<u8>) -> Result<(), AllocError>
+pub fn put_separator(columns: Columns, out: &mut Vec<u8>) -> Result<(), AllocError>
     ensures { OnOk result (out.new.items ≡ out.old.items ++ separator columns ∷ []) }
 {
     let byte = match columns {

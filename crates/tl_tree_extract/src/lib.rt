@@ -37,7 +37,7 @@ pub mod text;
 mod url_keys;
 mod written_bytes;
 
-pub use column::Columns;
+pub use column::{Columns, put_separator as write_separator, put_value as write_value};
 pub use fields::{Field, write_fields};
 pub use json_array::{json_of, write_json_array, write_json_flat, write_json_nodes};
 pub use json_form::JsonForm;
