@@ -1,6 +1,6 @@
 """What browsers make of pages that `tl sanitize` made safe.
 
-    ./x compare browser [--program FILE] [--runs N] [--trees N [--ammonia FILE]] [--seed N]
+    ./x compare browser [--program FILE] [--runs N] [--trees N [--ammonia FILE]] [--attacks N] [--seed N]
 
 The pages are those of `tests/safe.t`, which attack a browser, and N made up of pieces of such pages.
 Each is handed to Chromium as it stands and once it is sanitized: as a document in a frame, put into a live element, and put
@@ -15,6 +15,11 @@ into twelve elements, from `div` to `template`, and as a document, with a doctyp
 writes it. The same pages go through the Rust crate ammonia where its program is named, which `cargo build --release` makes in
 compare/ammonia.
 
+With --attacks it looks at N attacks by mutation (attacks.py) for each of five policies: whether the plain sanitizer prints the same,
+whether html5lib reads the tags that were written, whether Chromium builds the trees that were printed, and whether a script runs, a link
+would run one, or something beyond the policy stands in seven elements of a live document, a document and a fragment whose scripts run,
+each once more as the browser writes it. 500 pages stand there together, which takes seconds.
+
 Status: 0 where nothing is wrong, 1 where something is, 2 for words that aren't understood, 3 where Chromium or html5lib isn't
 installed (Debian: chromium, python3-html5lib).
 """
@@ -28,6 +33,7 @@ from tools.programs import gate_build
 from tools.transcripts import rows_of
 from tools.workspace import ROOT, Stop, text_of
 
+from .attacks import attack
 from .chromium import Missing, all_answers, chromium, version
 from .markup import tags_read, tags_written, tree_said, tree_with_values_as_texts
 from .misnested import POLICIES, misnested
@@ -36,9 +42,12 @@ from .sanitizer import Policy, safe_print
 BATCH = 100
 MANY = 1000
 TREES = 4000
+ATTACKS = 500
 # how many wrong pages are shown, the shortest first
 SHOWN = 5
 CALL = "steal()"
+# The lists by which attacks are sanitized.
+ATTACKED = ([], ["--comments"], ["--documents"], ["--nofollow-links", "--classes", "+hljs,*"], ["--documents", "--tags", "+ruby,rb,rp,rt,rtc,center,nobr,font,listing,details"])
 # A page that is printed as it stands, between others.
 BETWEEN = "(here begins another page)"
 
@@ -100,11 +109,11 @@ def policy(program, words=()):
     return Policy(said_by([program, "sanitize", *words, "--policy"]).splitlines())
 
 
-def judged(browser, pages):
+def judged(browser, pages, harness="harness.html", size=BATCH):
     """What is seen in Chromium of each page."""
     # A script of the page calls `parent.stolen(N)`.
-    batch = [page.replace(CALL, f"parent.stolen({number % BATCH})") for number, page in enumerate(pages)]
-    return all_answers(browser, "harness.html", batch, BATCH)
+    batch = [page.replace(CALL, f"parent.stolen({number % size})") for number, page in enumerate(pages)]
+    return all_answers(browser, harness, batch, size)
 
 
 def trees_seen(browser, prints):
@@ -150,24 +159,54 @@ def look_at_trees(given, browser, called):
     return len(wrong)
 
 
+def wrong_prints(pages, prints, lists):
+    """What is wrong of prints by what other programs write and read, each with its length."""
+    for page, text in zip(pages, prints):
+        if text != safe_print(page, lists):
+            yield len(page), f"the plain sanitizer prints another page: {page!r} is printed as {text!r}"
+        tags = tags_written(text)
+        if tags is None or tags != tags_read(text):
+            yield len(page), f"html5lib reads other tags: {page!r} is printed as {text!r}"
+
+
+def is_beyond(seen, lists):
+    """Whether something is seen that no page by these lists may have."""
+    others = set(seen["elements"]) - set(lists.tags) | set(seen["keys"]) - set(lists.keys)
+    return bool(seen["script"] or seen["link"] or seen["comments"] or others)
+
+
+def look_at_attacks(given, browser, words):
+    """What Chromium runs and builds of attacks by mutation, once they are sanitized by a policy that these words say."""
+    lists = policy(given.program, words)
+    chance = random.Random(f"{words} {given.seed}")
+    pages = [attack(chance) for _ in range(given.attacks)]
+    prints = sanitized(given.program, pages, words)
+    wrong = list(wrong_prints(pages, prints, lists))
+    for page, text, (tree, built) in zip(pages, prints, trees_seen(browser, prints)):
+        if changes(tree, built):
+            wrong.append((len(page), f"{page!r} is printed as {text!r}, for {tree}: {built}"))
+    for page, text, seen in zip(pages, prints, judged(browser, prints, "attacks.html", ATTACKS)):
+        if is_beyond(seen, lists):
+            wrong.append((len(page), f"{page!r} is printed as {text!r}: {seen}"))
+    for _, said in sorted(wrong)[:SHOWN]:
+        print(f"browser: {said}")
+    live = judged(browser, pages[:ATTACKS], "attacks.html", ATTACKS)
+    print(f"browser: {' '.join(['attacks', *words])}: {len(pages)} pages: {len(wrong)} wrong; of the first {len(live)} as they stand a script "
+          f"ran of {sum(1 for seen in live if seen['script'])}, a link would run one of {sum(1 for seen in live if seen['link'])}", flush=True)
+    return len(wrong)
+
+
 def look_at_pages(program, browser, pages, words):
     """What Chromium runs and builds of pages, as they stand and as they are printed by a policy that these words say."""
     lists = policy(program, words)
-    elements, keys = set(lists.tags), set(lists.keys)
     prints = sanitized(program, pages, words)
     wrong = 0
-    for page, text in zip(pages, prints):
-        if text != safe_print(page, lists):
-            print(f"browser: the plain sanitizer prints another page: {page!r} is printed as {text!r}")
-            wrong += 1
-        tags = tags_written(text)
-        if tags is None or tags != tags_read(text):
-            print(f"browser: html5lib reads other tags: {page!r} is printed as {text!r}")
-            wrong += 1
+    for _, said in wrong_prints(pages, prints, lists):
+        print(f"browser: {said}")
+        wrong += 1
     before, after = judged(browser, pages), judged(browser, prints)
     for page, text, seen in zip(pages, prints, after):
-        beyond = set(seen["elements"]) - elements | set(seen["keys"]) - keys
-        if seen["script"] or seen["link"] or seen["comments"] or beyond:
+        if is_beyond(seen, lists):
             print(f"browser: {page!r} is printed as {text!r}: {seen}")
             wrong += 1
     for said, all_seen in (("as they stand", before), ("sanitized", after)):
@@ -179,7 +218,7 @@ def look_at_pages(program, browser, pages, words):
 def main(parser, words):
     parser.add_argument("--program", metavar="FILE")
     parser.add_argument("--ammonia", metavar="FILE")
-    for it, otherwise in (("runs", 1000), ("trees", 0), ("seed", 1)):
+    for it, otherwise in (("runs", 1000), ("trees", 0), ("attacks", 0), ("seed", 1)):
         parser.add_argument(f"--{it}", type=int, default=otherwise, metavar="N")
     given = parser.parse_args(words)
     given.program = given.program or gate_build("tl")
@@ -193,7 +232,9 @@ def main(parser, words):
         print(f"browser: {missing} isn't installed; nothing was compared")
         return 3
     print(f"browser: {version(browser)}, html5lib {html5lib.__version__}", flush=True)
-    if given.trees:
+    if given.attacks:
+        wrong = sum(look_at_attacks(given, browser, words) for words in ATTACKED)
+    elif given.trees:
         # a tree is a list in a list for each element
         sys.setrecursionlimit(10000)
         wrong = sum(look_at_trees(given, browser, called) for called in POLICIES)

@@ -209,8 +209,8 @@ enum {
     TL_WHY_OPAQUE_TAG = 2,    /* what is in the element is no markup of HTML, or isn't shown: it goes with all of that */
     TL_WHY_FOREIGN_TAG = 3,   /* the element is one of `svg` or `math`: it goes with all that is in it */
     TL_WHY_MISPLACED_TAG = 4, /* the tag is listed, and may not stand where it is: what is in it stands in its place */
-    TL_WHY_UNLISTED_KEY = 5,  /* the key isn't listed */
-    TL_WHY_UNLISTED_VALUE = 6 /* the value may not stand at its key, as a link that begins with what no link may */
+    TL_WHY_UNLISTED_KEY = 5,  /* the attribute isn't listed */
+    TL_WHY_UNLISTED_VALUE = 6 /* the value may not stand in its attribute, as a link that begins with what no link may */
 };
 
 /* It in words. */
@@ -220,7 +220,7 @@ static inline const char *tl_why_text(uint8_t why) {
     case TL_WHY_OPAQUE_TAG: return "what is in it isn't shown as markup";
     case TL_WHY_FOREIGN_TAG: return "it is no element of HTML";
     case TL_WHY_MISPLACED_TAG: return "the tag may not stand here";
-    case TL_WHY_UNLISTED_KEY: return "the key isn't listed";
+    case TL_WHY_UNLISTED_KEY: return "the attribute isn't listed";
     case TL_WHY_UNLISTED_VALUE: return "the value may not stand here";
     default: return "no reason";
     }

@@ -746,7 +746,7 @@ What goes is told on standard error by `--removed`, each with the place of its s
   $ printf '<p onclick=f()>a\n  <script>b</script><i>c' | tl sanitize --tags p --removed
   <p>a
     c</p> (no-eol)
-  -:1:1: <p onclick>: the key isn't listed (err)
+  -:1:1: <p onclick>: the attribute isn't listed (err)
   -:2:3: <script>: what is in it isn't shown as markup (err)
   -:2:21: <i>: the tag isn't listed (err)
   $ printf 'é<table><td>a<a HREF=javascript:b TITLE=c>d<svg><path>' >gone.html
@@ -759,6 +759,10 @@ What goes is told on standard error by `--removed`, each with the place of its s
   <p>ab</p> (no-eol)
   -:1:5: <object>: the tag isn't listed (err)
   -:1:13: <p>: the tag may not stand here (err)
+  $ printf '<p o\033[31mn\\=1><a\302\233\177>b' | tl sanitize --removed
+  <p>b</p> (no-eol)
+  -:1:1: <p o\x1b[31mn\x5c>: the attribute isn't listed (err)
+  -:1:15: <a\xc2\x9b\x7f>: the tag isn't listed (err)
   $ printf '<p>a' | tl sanitize --removed
   <p>a</p> (no-eol)
   $ tl sanitize --removed gone.html none 2>&1 >/dev/null | tail -1

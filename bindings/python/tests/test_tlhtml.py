@@ -618,7 +618,7 @@ class SafePages(unittest.TestCase):
         self.assertEqual(
             [tuple(it) for it in removed(page)],
             [
-                ("p", "onclick", "the key isn't listed", 1, 0),
+                ("p", "onclick", "the attribute isn't listed", 1, 0),
                 ("script", None, "what is in it isn't shown as markup", 2, 0),
                 ("table", None, "the tag isn't listed", 2, 19),
                 ("td", None, "the tag isn't listed", 2, 26),

@@ -59,7 +59,7 @@ WHYS = {
     2: "what is in it isn't shown as markup",
     3: "it is no element of HTML",
     4: "the tag may not stand here",
-    5: "the key isn't listed",
+    5: "the attribute isn't listed",
     6: "the value may not stand here",
 }
 

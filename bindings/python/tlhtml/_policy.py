@@ -148,7 +148,7 @@ def removed(html: str, policy: Policy | Lists = Policy.BLOG) -> list[Removal]:
 
     >>> for it in removed("<p onclick=f()>x<script>y</script>"):
     ...     print(f"{it.sourceline}:{it.sourcepos}", it.tag, it.key, it.why)
-    1:0 p onclick the key isn't listed
+    1:0 p onclick the attribute isn't listed
     1:16 script None what is in it isn't shown as markup
     """
     page = utf8(html, "a page")

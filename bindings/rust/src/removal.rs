@@ -35,9 +35,9 @@ pub enum Why {
     ForeignTag,
     /// The tag is listed, and may not stand where it is: what is in it stands in its place.
     MisplacedTag,
-    /// The key isn't listed.
+    /// The attribute isn't listed.
     UnlistedKey,
-    /// The value may not stand at its key, as a link that begins with what no link may.
+    /// The value may not stand in its attribute, as a link that begins with what no link may.
     UnlistedValue,
     /// A cause that the library knows and this crate doesn't.
     Other(u8),
@@ -64,7 +64,7 @@ impl fmt::Display for Why {
             Why::OpaqueTag => "what is in it isn't shown as markup",
             Why::ForeignTag => "it is no element of HTML",
             Why::MisplacedTag => "the tag may not stand here",
-            Why::UnlistedKey => "the key isn't listed",
+            Why::UnlistedKey => "the attribute isn't listed",
             Why::UnlistedValue => "the value may not stand here",
             Why::Other(number) => return write!(f, "cause {number}"),
         })

@@ -603,7 +603,7 @@ fn what_goes() {
                 "<P onclick=f()>",
                 "p",
                 Some("onclick"),
-                "the key isn't listed",
+                "the attribute isn't listed",
                 (1, 3)
             ),
             of(

@@ -1,7 +1,8 @@
 -- Pages made safe: each is read as what a `div` holds.
 use Rattle.std.specs.Prelude.{Bool, List, if◌then◌else◌, true, ℕ, ◌&&◌, ◌++◌, ◌≡◌}
-use Rattle.tl_dom_spec.specs.Partial.{without_numbers}
-use Rattle.tl_html_print.specs.Again.{built_in_div}
+use Rattle.tl_dom_spec.specs.HtmlTree.{Context}
+use Rattle.tl_dom_spec.specs.Partial.{is_flow_context, without_numbers}
+use Rattle.tl_html_print.specs.Again.{built_in}
 use Rattle.tl_html_print.specs.ReadAgain.{tokens_of_trees}
 use Rattle.tl_html_spec.specs.HtmlTokenizer.{data_state, without_mark}
 use Rattle.tl_html_spec.specs.Reader.{at, tokens_of}
@@ -29,8 +30,10 @@ pub record IsSafe (lists : ListedWords) (text bytes : List ℕ) : Type 0 where
   -- also where other markup follows, the standard's tokenizer reads its tags and texts alone
   pub read : (rest : List ℕ) → tokens_of (at data_state) (bytes ++ rest)
       ≡ tokens_of_trees (kept_in_div lists text) ++ tokens_of (at data_state) rest
-  -- the standard's tree construction builds exactly its trees in a `div`
-  pub built : (counts_search : Bool) → without_numbers (built_in_div counts_search bytes)
+  -- the standard's tree construction builds exactly its trees in each context element of flow
+  -- content, as `div`, `body`, `li` and `td`
+  pub built : (context : Context) (counts_search : Bool) → is_flow_context context ≡ true
+      → without_numbers (built_in context counts_search bytes)
       ≡ without_numbers (texts_joined (kept_in_div lists text))
   -- each tag that is read has a listed name, and listed attributes
   pub listed : are_listed lists (tokens_of (at data_state) bytes) ≡ true

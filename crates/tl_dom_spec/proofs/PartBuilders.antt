@@ -1,9 +1,11 @@
 -- The partial builder of `tl_tree_spec` and the whole one, side by side: what they hold alike, and what is done to both.
-use Rattle.std.proofs.Common.{◌≡◌, ℕ, suc, Bool, true, false, ◌==◌, List, [], ◌∷◌, map, Some, codes}
+use Rattle.std.proofs.Common.{◌≡◌, ℕ, suc, Bool, true, false, ◌==◌, List, [], ◌∷◌, map, Option, Some}
 use Rattle.std.specs.Prelude.{⊤, ◌<◌}
 use Rattle.tl_tree_spec.specs.Builder as P
 use Rattle.tl_tree_spec.specs.Groups as G
-use Rattle.tl_dom_spec.specs.Tags.{bare_tag}
+use Rattle.tl_dom_spec.specs.Tags.{Tag, html_space}
+use Rattle.tl_dom_spec.specs.Groups as D
+use Rattle.tl_dom_spec.specs.Partial.{begins_in_body}
 use Rattle.tl_dom_spec.specs.Builder as B
 use Rattle.tl_dom_spec.proofs.PartPaths.{IsStack, frames_of, name_of, path_of, tag_of}
 use Rattle.tl_dom_spec.proofs.PartSources.{bare_entries, bare_path}
@@ -80,6 +82,16 @@ pub record Sound (b : P.Builder) : Type 0 where
   pub numbers : AreNumbered b.next b.active (frames_of b.stack)
   pub mode : b.mode ≡ P.mode_of (P.names b.stack)
 
+-- the element as one of HTML
+abbrev pub as_html : Tag → Tag
+as_html tag = record tag { space = html_space }
+
+-- the context element is one of HTML in which the first rules are those of "in body"
+pub record IsFlow (context : Option Tag) : Type 0 where
+  pub tag : Tag
+  pub is : context ≡ Some (as_html tag)
+  pub begins : begins_in_body (D.group tag.name) ≡ true
+
 -- what the whole builder holds besides is no matter, nor are the numbers of start tags
 pub record Like (b : P.Builder) (c : B.Builder) : Type 0 where
   pub path : bare_path c.path ≡ path_of (frames_of b.stack)
@@ -90,7 +102,7 @@ pub record Like (b : P.Builder) (c : B.Builder) : Type 0 where
   pub fostering : c.is_fostering ≡ false
   pub quirks : c.is_quirks ≡ false
   pub templates : c.templates ≡ []
-  pub context : c.context ≡ Some (bare_tag (codes "div"))
+  pub context : IsFlow c.context
   pub search : c.flags.counts_search ≡ b.counts_search
 
 -- both

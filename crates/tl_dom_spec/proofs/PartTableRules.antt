@@ -11,7 +11,6 @@ use Rattle.tl_tree_spec.specs.HtmlTreeBuilder as R
 use Rattle.tl_tree_spec.specs.HtmlForest.{HtmlTag}
 use Rattle.tl_tree_spec.specs.Groups as G
 use Rattle.tl_dom_spec.specs.Tags as T
-use Rattle.tl_dom_spec.specs.Tags.{bare_tag}
 use Rattle.tl_dom_spec.specs.Groups as D
 use Rattle.tl_dom_spec.specs.Path as W
 use Rattle.tl_dom_spec.specs.Builder as B
@@ -20,7 +19,7 @@ use Rattle.tl_dom_spec.specs.Tables as S
 use Rattle.tl_dom_spec.specs.Dispatcher as M
 use Rattle.tl_dom_spec.proofs.PartNames.{facts, has_twin, is_elsewhere, is_misplaced, is_option_group, twin}
 use Rattle.tl_dom_spec.proofs.PartPaths.{IsStack, frames_of, name_of, path_of, tag_of, tag_with}
-use Rattle.tl_dom_spec.proofs.PartBuilders.{Alike, Like, Sound, mode_is, stands_in}
+use Rattle.tl_dom_spec.proofs.PartBuilders.{Alike, Like, Sound, as_html, mode_is, stands_in}
 use Rattle.tl_dom_spec.proofs.PartOps as O
 use Rattle.tl_dom_spec.proofs.PartSound.{alone_sound, group_of, names_in}
 use Rattle.tl_dom_spec.proofs.PartRules.{end_in_body, start_in_body}
@@ -56,16 +55,20 @@ html_content : (own : HtmlTag) (token : B.Token) → M.is_html_content (tag_of o
 html_content own B.end_of_file = refl
 html_content own _ = refl
 
-pub content_of : (token : B.Token) (f : P.Frame) (v : Bool) → M.is_html_content (if v then bare_tag (codes "div") else tag_of f.element.own) token ≡ true
-content_of token f true = html_content (record { name = codes "div"; attributes = [] }) token
-content_of token f false = html_content f.element.own token
+html_around : (t : T.Tag) (token : B.Token) → M.is_html_content (as_html t) token ≡ true
+html_around t B.end_of_file = refl
+html_around t _ = refl
+
+pub content_of : (token : B.Token) (t : T.Tag) (f : P.Frame) (v : Bool) → M.is_html_content (if v then as_html t else tag_of f.element.own) token ≡ true
+content_of token t f true = html_around t token
+content_of token t f false = html_content f.element.own token
 
 pub dispatched : {b : P.Builder} {c : B.Builder} → Like b c → (token : B.Token) → M.dispatch token c ≡ M.mode_step (mode_is b.mode) c token
 dispatched {b = b} {c = c} h token =
     cond-true _ _ _ (
     html_content-bare c.context c.path token
-    ∙ ap₂ (λ x p. M.is_html_content (B.adjusted_tag x p) token) h.context h.path
-    ∙ content_of token b.stack.current (B.is_only (W.elements (path_of (frames_of b.stack)))))
+    ∙ ap₂ (λ x p. M.is_html_content (B.adjusted_tag x p) token) h.context.is h.path
+    ∙ content_of token h.context.tag b.stack.current (B.is_only (W.elements (path_of (frames_of b.stack)))))
     ∙ ap (λ m. M.mode_step m c token) h.mode
 
 pub again : {b : P.Builder} {c : B.Builder} → Alike b c → (token : B.Token) (n : ℕ) (after : P.Builder) →

@@ -1,5 +1,5 @@
 -- The operations of the modes of tables leave both builders alike.
-use Rattle.std.proofs.Common.{Bool, List, Option, Some, [], ap, codes, false, inl, inr, map, not, refl, subst, suc, sym, true, true≢false, ℕ, ◌&&◌, ◌||◌, ◌∙◌, ◌∷◌, ◌≡◌, ◌⊎◌}
+use Rattle.std.proofs.Common.{Bool, List, Option, [], ap, codes, false, inl, inr, map, not, refl, subst, suc, sym, true, true≢false, ℕ, ◌&&◌, ◌||◌, ◌∙◌, ◌∷◌, ◌≡◌, ◌⊎◌}
 use Rattle.std.proofs.lemmas.Bool.{and_parts, cases_Bool, cond-false, cond-true}
 use Rattle.tl_tree_spec.specs.Builder as P
 use Rattle.tl_tree_spec.specs.HtmlTreeBuilder as R
@@ -8,6 +8,7 @@ use Rattle.tl_tree_spec.specs.Groups as G
 use Rattle.tl_dom_spec.specs.Tags as T
 use Rattle.tl_dom_spec.specs.Tags.{Tag, bare_tag}
 use Rattle.tl_dom_spec.specs.Groups as D
+use Rattle.tl_dom_spec.specs.Partial.{begins_in_body}
 use Rattle.tl_dom_spec.specs.Path as W
 use Rattle.tl_dom_spec.specs.Builder as B
 use Rattle.tl_dom_spec.specs.Reset as E
@@ -15,7 +16,7 @@ use Rattle.tl_dom_spec.specs.Tables as S
 use Rattle.tl_dom_spec.proofs.PartNames.{facts, has_twin, twin}
 use Rattle.tl_dom_spec.proofs.PartPaths.{IsStack, back_is, elements_are, frame_of, frames_of, has_in, has_within, name_of, path_of, same_all, tag_of, tag_with}
 use Rattle.tl_dom_spec.proofs.PartActive.{marker_listed, without_last_marker_is}
-use Rattle.tl_dom_spec.proofs.PartBuilders.{Alike, AreNumbered, Like, Sound, Stand, is_flow_group, mode_is, stands_in}
+use Rattle.tl_dom_spec.proofs.PartBuilders.{Alike, AreNumbered, IsFlow, Like, Sound, Stand, is_flow_group, mode_is, stands_in}
 use Rattle.tl_dom_spec.proofs.PartOps as O
 use Rattle.tl_dom_spec.proofs.PartSound.{agrees_marker, group_of, names_in, numbers_by, numbers_same, pushed_sound, stack_same, stand_same}
 use Rattle.tl_dom_spec.proofs.PartSources.{elements-bare, has_within-bare, mode_of-bare, popped-bare, popped_to-bare, seen, without_last_marker-bare}
@@ -281,10 +282,23 @@ mode_at_by c G.an_option m h = absurd (true≢false (sym h))
 mode_at_by c G.elsewhere m h = absurd (true≢false (sym h))
 mode_at_by c _ m h = refl
 
-reset_is : (c : B.Builder) → c.context ≡ Some (bare_tag (codes "div")) → (f : P.Frame) (os : List P.Frame) → IsStack f os →
+-- where the context element decides
+pub context_mode : (c : B.Builder) (g : D.Group) → begins_in_body g ≡ true → E.or_mode (E.mode_at c true g) B.in_body ≡ B.in_body
+context_mode c D.the_html h = absurd (true≢false (sym h))
+context_mode c D.a_frameset h = absurd (true≢false (sym h))
+context_mode c D.a_template h = absurd (true≢false (sym h))
+context_mode c D.a_table h = absurd (true≢false (sym h))
+context_mode c D.a_caption h = absurd (true≢false (sym h))
+context_mode c D.a_column_group h = absurd (true≢false (sym h))
+context_mode c D.a_table_body h = absurd (true≢false (sym h))
+context_mode c D.a_row h = absurd (true≢false (sym h))
+context_mode c _ h = refl
+
+reset_is : (c : B.Builder) → IsFlow c.context → (f : P.Frame) (os : List P.Frame) → IsStack f os →
     E.mode_of c (map frame_of (f ∷ os)) ≡ mode_is (mode_in f os)
 reset_is c e f [] k =
-    ap (λ x. E.or_mode (E.tag_mode c true (E.last_tag x (tag_of f.element.own))) B.in_body) e
+    ap (λ x. E.or_mode (E.tag_mode c true (E.last_tag x (tag_of f.element.own))) B.in_body) e.is
+    ∙ context_mode c (D.group e.tag.name) e.begins
     ∙ ap (λ n. mode_is (P.mode_by (G.group n) P.in_body)) (sym k)
 reset_is c e f (o ∷ os) k =
     ap (E.or_mode (E.mode_at c false (D.group (name_of f)))) (reset_is c e o os k.1)

@@ -4,9 +4,9 @@ use Rattle.std.specs.Prelude.{nat_lt, option_map}
 use Rattle.std.specs.Char.{is_ascii_whitespace}
 use Rattle.std.specs.List.{list_all, list_any}
 use Rattle.std.specs.Str.{bytes_eq}
-use Rattle.std.proofs.lemmas.Bool.{and_parts, cases_Bool, cond-false, cond-true, eqb-true, false_from_ne_true}
+use Rattle.std.proofs.lemmas.Bool.{and_parts, cases_Bool, cond-false, cond-true, eqb-true, false_from_ne_true, not-true}
 use Rattle.std.proofs.lemmas.Slice.Eq.{bytes_eq-Decides}
-use Rattle.tl_html_spec.specs.Balanced.{is_one_of, words}
+use Rattle.tl_html_spec.specs.Balanced.{is_one_of, is_raw, words}
 use Rattle.tl_html_spec.specs.HtmlTokenizer.{Character, CommentToken, DoctypeToken, EndTag, HtmlToken, StartTag, data_state}
 use Rattle.tl_spec.specs.Tree.Forest.{none, tag, text}
 use Rattle.tl_tree_spec.specs.Builder as P
@@ -14,7 +14,6 @@ use Rattle.tl_tree_spec.specs.HtmlTreeBuilder as R
 use Rattle.tl_tree_spec.specs.HtmlForest.{HtmlForest, HtmlTag}
 use Rattle.tl_tree_spec.specs.Groups as G
 use Rattle.tl_dom_spec.specs.Tags as T
-use Rattle.tl_dom_spec.specs.Tags.{bare_tag}
 use Rattle.tl_dom_spec.specs.Path as W
 use Rattle.tl_dom_spec.specs.Builder as B
 use Rattle.tl_dom_spec.specs.Body as Body
@@ -24,17 +23,18 @@ use Rattle.tl_dom_spec.specs.Dispatcher as M
 use Rattle.tl_dom_spec.specs.Driver.{token_of}
 use Rattle.tl_dom_spec.specs.HtmlTree as H
 use Rattle.tl_dom_spec.specs.HtmlForest as F
-use Rattle.tl_dom_spec.specs.Partial.{whole, without_numbers}
+use Rattle.tl_dom_spec.specs.Groups as D
+use Rattle.tl_dom_spec.specs.Partial.{begins_in_body, is_flow_context, whole, without_numbers}
 use Rattle.tl_dom_spec.proofs.PartSources.{bare_path, html_content-bare, open-bare, popped_to-bare, put-bare, top-bare, trees-bare}
 use Rattle.tl_dom_spec.proofs.PartNames.{facts, has_twin}
 use Rattle.tl_dom_spec.proofs.PartPaths.{IsStack, elements_are, eq_suc, frame_of, frames_of, name_of, nodes_of, path_of, pops_on, stays_on, tag_of}
-use Rattle.tl_dom_spec.proofs.PartBuilders.{Alike, Like, Sound, mode_is}
+use Rattle.tl_dom_spec.proofs.PartBuilders.{Alike, Like, Sound, as_html, mode_is}
 use Rattle.tl_dom_spec.proofs.PartOps as O
 use Rattle.tl_dom_spec.proofs.PartSound.{character_sound}
 use Rattle.tl_dom_spec.proofs.PartBody.{character_in_body}
 use Rattle.tl_dom_spec.proofs.PartRoots.{MayHaveRoot, Rooted, root_around}
 use Rattle.tl_dom_spec.proofs.PartRoots as Roots
-use Rattle.tl_dom_spec.proofs.PartTables.{current_at}
+use Rattle.tl_dom_spec.proofs.PartTables.{context_mode, current_at}
 use Rattle.tl_dom_spec.proofs.PartTableRules.{Reaches, a_start, again, an_end, content_of, dispatched, done, enough, more, no_answer, reaches_repeated}
 
 -- White space that waits
@@ -152,9 +152,9 @@ module _ {b : P.Builder} {c : B.Builder} (w : Waits b c) where
   content : (token : B.Token) → M.is_html_content (B.adjusted_current_node c) token ≡ true
   content token =
       html_content-bare c.context c.path token
-      ∙ ap (λ x. M.is_html_content (B.adjusted_tag x (bare_path c.path)) token) w.alike.like.context
-      ∙ ap (λ t. M.is_html_content (if B.is_only (W.elements (bare_path c.path)) then bare_tag (codes "div") else t) token) top_is
-      ∙ content_of token b.stack.current (B.is_only (W.elements (bare_path c.path)))
+      ∙ ap (λ x. M.is_html_content (B.adjusted_tag x (bare_path c.path)) token) w.alike.like.context.is
+      ∙ ap (λ t. M.is_html_content (if B.is_only (W.elements (bare_path c.path)) then as_html w.alike.like.context.tag else t) token) top_is
+      ∙ content_of token w.alike.like.context.tag b.stack.current (B.is_only (W.elements (bare_path c.path)))
 
   in_text : (token : B.Token) → M.dispatch token c ≡ S.in_table_text_step c token
   in_text token = cond-true _ _ _ (content token) ∙ ap (λ m. M.mode_step m c token) w.mode
@@ -280,8 +280,8 @@ module _ {b : P.Builder} {c : B.Builder} (h : Alike b c) (x : ℕ) (m : is_betwe
   html_current : (token : B.Token) → M.is_html_content (B.adjusted_current_node emptied) token ≡ true
   html_current token =
       html_content-bare c.context c.path token
-      ∙ ap₂ (λ y p. M.is_html_content (B.adjusted_tag y p) token) h.like.context h.like.path
-      ∙ content_of token b.stack.current (B.is_only (W.elements (path_of (frames_of b.stack))))
+      ∙ ap₂ (λ y p. M.is_html_content (B.adjusted_tag y p) token) h.like.context.is h.like.path
+      ∙ content_of token h.like.context.tag b.stack.current (B.is_only (W.elements (path_of (frames_of b.stack))))
 
   takes : M.dispatch (B.a_character x) emptied ≡ B.Done waiting
   takes = cond-true _ _ _ (html_current (B.a_character x)) ∙ ap B.Done (cond-false _ _ _ (no_nul x k))
@@ -441,19 +441,36 @@ tokens_go (token ∷ tokens) b c h after eq =
 
 -- The beginning
 
-pub starts_alike : (v : Bool) → Alike (R.fragment v) (H.fragment_start (record H.standard { counts_search = v }) (H.context_of (bare_tag (codes "div"))))
-starts_alike v = record {
+-- a flow context, as a context of HTML outside of quirks mode
+abbrev flow : H.Context → H.Context
+flow context = record context { tag = as_html context.tag; is_quirks = false }
+
+flow_html : (context : H.Context) → T.is_html context.tag ≡ true → context.is_quirks ≡ false → context ≡ flow context
+flow_html context h q = ap₂ (λ (s : T.Namespace) (v : Bool). record context { tag = record context.tag { space = s }; is_quirks = v }) (of_html context.tag.space h) q
+  where
+    of_html : (s : T.Namespace) → T.by_space s true false false ≡ true → s ≡ T.html_space
+    of_html T.html_space h = refl
+    of_html T.math_space h = absurd (true≢false (sym h))
+    of_html T.svg_space h = absurd (true≢false (sym h))
+
+no_template_around : (t : T.Tag) → begins_in_body (D.group t.name) ≡ true → T.is_template (as_html t) ≡ false
+no_template_around t h =
+    ap (λ v. v || false)
+    (false_from_ne_true (bytes_eq t.name (codes "template")) (λ y. true≢false (sym h ∙ ap (λ m. begins_in_body (D.group m)) ((bytes_eq-Decides t.name (codes "template")).0 y))))
+
+pub starts_alike : (context : H.Context) → begins_in_body (D.group context.tag.name) ≡ true → (v : Bool) → Alike (R.fragment v) (H.fragment_start (record H.standard { counts_search = v }) (flow context))
+starts_alike context h v = record {
   sound = record { stack = refl; stand = tt; entries = tt; numbers = ((let z : 0 < 1 = omega arith in z), tt, tt); mode = refl };
   like = record {
     path = refl;
     active = refl;
     next = refl;
-    mode = refl;
+    mode = context_mode (H.fragment_start (record H.standard { counts_search = v }) (flow context)) (D.group context.tag.name) h;
     skips = refl;
     fostering = refl;
     quirks = refl;
-    templates = refl;
-    context = refl;
+    templates = ap (λ x. if x then B.in_template ∷ [] else []) (no_template_around context.tag h);
+    context = record { tag = context.tag; is = refl; begins = h };
     search = refl;
   };
 }
@@ -546,23 +563,44 @@ trees_are b c h r =
     ∙ ap (λ p. H.trees_in (W.top p)) (popped_to-bare (W.has_number 1) (W.has_number 1) (λ _. refl) c.path)
     ∙ ap (λ p. H.trees_in (W.top (W.popped_to (W.has_number 1) p))) h.path ∙ root_from b.stack.current b.stack.current b.stack.others r
 
--- where the partial builder has an outcome, the whole one has the same trees
-pub partial_is_whole : (v : Bool) (tokens : List HtmlToken) (forest : HtmlForest) → R.html_trees_where v tokens ≡ Some forest →
-    without_numbers (H.fragment_of_tokens (record H.standard { counts_search = v }) (H.context_of (bare_tag (codes "div"))) tokens) ≡ whole forest
-partial_is_whole v tokens forest eq = by_run (R.run (Some (R.fragment v)) tokens) refl (Roots.run tokens (Some (R.fragment v)) (refl, refl)) eq
+in_flow : (context : H.Context) → begins_in_body (D.group context.tag.name) ≡ true → (v : Bool) (tokens : List HtmlToken) (forest : HtmlForest) → R.html_trees_where v tokens ≡ Some forest →
+    without_numbers (H.fragment_of_tokens (record H.standard { counts_search = v }) (flow context) tokens) ≡ whole forest
+in_flow context h v tokens forest eq = by_run (R.run (Some (R.fragment v)) tokens) refl (Roots.run tokens (Some (R.fragment v)) (refl, refl)) eq
   where
     forest_same : {x y : HtmlForest} → Some x ≡ Some y → x ≡ y
     forest_same e = cc
 
     by_run : (o : Option P.Builder) → R.run (Some (R.fragment v)) tokens ≡ o → MayHaveRoot o → option_map R.trees_of o ≡ Some forest →
-        without_numbers (H.fragment_of_tokens (record H.standard { counts_search = v }) (H.context_of (bare_tag (codes "div"))) tokens) ≡ whole forest
+        without_numbers (H.fragment_of_tokens (record H.standard { counts_search = v }) (flow context) tokens) ≡ whole forest
     by_run None e r k = absurd (true≢false (sym (ap is_forest k)))
       where
         is_forest : Option HtmlForest → Bool
         is_forest None = false
         is_forest (Some x) = true
     by_run (Some after) e r k =
-        let start : B.Builder = H.fragment_start (record H.standard { counts_search = v }) (H.context_of (bare_tag (codes "div"))) in
-        let goes = tokens_go tokens (R.fragment v) start (inl (starts_alike v)) after e in
+        let start : B.Builder = H.fragment_start (record H.standard { counts_search = v }) (flow context) in
+        let goes = tokens_go tokens (R.fragment v) start (inl (starts_alike context h v)) after e in
         let ends = file_goes after (M.tokens_done start (map token_of tokens)) goes in
         trees_are (R.calm after) (M.token_done (M.tokens_done start (map token_of tokens)) B.end_of_file) ends.like r.1 ∙ ap whole (forest_same k)
+
+-- what a flow context is
+pub record IsFlowContext (context : H.Context) : Type 0 where
+  pub html : T.is_html context.tag ≡ true
+  pub quirks : context.is_quirks ≡ false
+  pub begins : begins_in_body (D.group context.tag.name) ≡ true
+  pub markup : is_raw context.tag.name ≡ false
+
+pub flow_is : (context : H.Context) → is_flow_context context ≡ true → IsFlowContext context
+flow_is context h =
+    let p = and_parts (T.is_html context.tag && not context.is_quirks) (begins_in_body (D.group context.tag.name) && not (is_raw context.tag.name)) h in
+    let q = and_parts (T.is_html context.tag) (not context.is_quirks) p.0 in
+    let r = and_parts (begins_in_body (D.group context.tag.name)) (not (is_raw context.tag.name)) p.1 in
+    record { html = q.0; quirks = not-true context.is_quirks q.1; begins = r.0; markup = not-true (is_raw context.tag.name) r.1 }
+
+-- where the partial builder has an outcome, the whole one has the same trees in each such context element
+pub partial_is_whole : (context : H.Context) (v : Bool) (tokens : List HtmlToken) (forest : HtmlForest) → is_flow_context context ≡ true → R.html_trees_where v tokens ≡ Some forest →
+    without_numbers (H.fragment_of_tokens (record H.standard { counts_search = v }) context tokens) ≡ whole forest
+partial_is_whole context v tokens forest h eq =
+    let f = flow_is context h in
+    ap (λ x. without_numbers (H.fragment_of_tokens (record H.standard { counts_search = v }) x tokens)) (flow_html context f.html f.quirks)
+    ∙ in_flow context f.begins v tokens forest eq

@@ -2,7 +2,7 @@
 use Prim.Native.String.{String}
 use Rattle.std.specs.Prelude.{Bool, List, None, Option, Some, [], codes, if◌then◌else◌, map, true, ℕ, ◌++◌, ◌∷◌}
 use Rattle.tl_html_spec.specs.HtmlTokenizer.{data_state, html_tokens}
-use Rattle.tl_dom_spec.specs.Tags.{Attribute, AttributeSpace, Namespace, html_space, is_named, math_space, no_space, svg_space, xlink_space, xml_space, xmlns_space}
+use Rattle.tl_dom_spec.specs.Tags.{Attribute, AttributeSpace, Namespace, bare_tag, html_space, is_named, math_space, no_space, svg_space, xlink_space, xml_space, xmlns_space}
 use Rattle.tl_html_spec.specs.Doctypes.{or_empty}
 use Rattle.tl_html_spec.specs.Driven.{driven, in_state}
 use Rattle.tl_dom_spec.specs.Builder.{Builder, Flags, a_character, end_of_file}
@@ -11,6 +11,7 @@ use Rattle.tl_dom_spec.specs.Runs.{run_taken}
 use Rattle.tl_dom_spec.specs.Driver.{builder}
 use Rattle.tl_dom_spec.specs.HtmlForest.{HtmlForest, comment, doctype, element, has_contents, no_trees, text}
 use Rattle.tl_dom_spec.specs.HtmlTree.{Context, context_of, document_of, fragment_of_tokens, html_fragment_by, html_tree, html_tree_by, page_read, page_start, standard, tree_of_tokens, with_scripting, without_search}
+use Rattle.tl_dom_spec.specs.Partial.{is_flow_context}
 
 abbrev pub space_shown : Namespace → List ℕ
 space_shown html_space = []
@@ -173,3 +174,7 @@ numbers bytes = numbers_of (html_tree (codes bytes)).trees
 abbrev pub numbers_inside : String → String → List (Option ℕ)
 numbers_inside name bytes =
     numbers_of (html_fragment_by standard (context_named html_space name) (codes bytes))
+
+-- whether flow content is read as such in an element of a name
+abbrev pub is_flow : List ℕ → Bool
+is_flow name = is_flow_context (context_of (bare_tag name))

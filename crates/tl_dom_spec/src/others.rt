@@ -1,7 +1,12 @@
-//! Worked rows: templates, what follows the body, framesets (13.2.6.4.16 to .21).
+//! Worked rows: templates, what follows the body, framesets (13.2.6.4.16 to .21), context elements
+//! of flow content.
 
-ghost use Rattle.std.specs.Prelude.{◌≡◌, codes};
-ghost use Rattle.tl_dom_spec.specs.Examples.{in_body, inside, page};
+ghost use Rattle.std.specs.List.{list_all, list_any};
+ghost use Rattle.std.specs.Prelude.{◌≡◌, codes, false, true};
+ghost use Rattle.tl_dom_spec.specs.Examples.{context_named, in_body, inside, is_flow, page};
+ghost use Rattle.tl_dom_spec.specs.Partial.{is_flow_context};
+ghost use Rattle.tl_dom_spec.specs.Tags.{html_space, svg_space};
+ghost use Rattle.tl_html_spec.specs.Balanced.{words};
 
 /// "in template" (13.2.6.4.16).
 pub fn in_template()
@@ -94,4 +99,15 @@ pub fn after_after_frameset()
     ensures html { page "<frameset></frameset></html><html a=1>" ≡ codes "<html a=1>[<head><frameset>]" }
     ensures noframes { page "<frameset></frameset></html><noframes>a</noframes>" ≡ codes "<html>[<head><frameset><noframes>['a']]" }
     ensures anything_else_is_ignored { page "<frameset></frameset></html><p>a</p>" ≡ codes "<html>[<head><frameset>]" }
+{}
+
+/// Context elements in which flow content is read as such.
+pub fn flow_contexts()
+    ensures flow { list_all is_flow (words (codes "body div main section article aside nav header footer address blockquote li dd dt figure figcaption fieldset details dialog td th p h1 span a b ins del button form object noscript svg")) ≡ true }
+    ensures others { list_any is_flow (words (codes "html frameset template table caption colgroup thead tbody tfoot tr title textarea style xmp iframe noembed noframes script plaintext")) ≡ false }
+    ensures foreign { is_flow_context (context_named svg_space "div") ≡ false }
+    ensures quirks { let div = context_named html_space "div" in
+        is_flow_context (record div { is_quirks = true }) ≡ false }
+    ensures form { let cell = context_named html_space "td" in
+        is_flow_context (record cell { is_in_form = true }) ≡ true }
 {}

@@ -5,30 +5,30 @@ use Rattle.std.specs.List.{list_all, list_any}
 use Rattle.std.specs.Str.{bytes_eq}
 use Rattle.std.proofs.lemmas.Bool.{and_from, and_parts, cases_Bool, eq-eqb}
 use Rattle.tl_names.specs.Elements.{is_among, rawtext_names, rcdata_names}
-use Rattle.tl_dom_spec.proofs.PartTrees.{partial_is_whole}
+use Rattle.tl_dom_spec.proofs.PartTrees.{flow_is, partial_is_whole}
 use Rattle.tl_dom_spec.proofs.PlainLaw.{bare_fragment, named_tokens}
 use Rattle.tl_dom_spec.proofs.TextLaw.{fragment_texts}
 use Rattle.tl_dom_spec.specs.Builder.{Flags}
 use Rattle.tl_dom_spec.specs.HtmlForest as D
-use Rattle.tl_dom_spec.specs.HtmlTree.{Context, context_of, fragment_of_tokens, html_fragment_by, html_tree_by, standard}
+use Rattle.tl_dom_spec.specs.HtmlTree.{Context, context_state, fragment_of_tokens, html_fragment_by, html_tree_by, standard}
 use Rattle.tl_dom_spec.specs.Lawful.{HaveHtmlDoctypes, HavePlainNames, driven_by_names, is_plain_name}
 use Rattle.tl_dom_spec.specs.Lawful as L
 use Rattle.tl_dom_spec.specs.Marks.{Marked, unmarked}
-use Rattle.tl_dom_spec.specs.Partial.{unnumbered, whole, without_numbers}
-use Rattle.tl_dom_spec.specs.Tags.{Attribute, Tag, bare_tag, html_tag, is_html, plain_attribute}
+use Rattle.tl_dom_spec.specs.Partial.{is_flow_context, unnumbered, whole, without_numbers}
+use Rattle.tl_dom_spec.specs.Tags.{Attribute, Tag, html_tag, is_html, plain_attribute}
 use Rattle.tl_html_print.proofs.PagePlaces.{at_place, each_written, outer_is}
 use Rattle.tl_html_print.proofs.PageReads.{can_be, listed}
 use Rattle.tl_html_print.proofs.PageTokens.{EachIsFit}
 use Rattle.tl_html_print.proofs.PageTrees.{AreWritten, fragment_written, page_written}
 use Rattle.tl_html_print.proofs.Reread.{print_read}
-use Rattle.tl_html_print.specs.Again.{built_in_div, is_read_again}
+use Rattle.tl_html_print.specs.Again.{built_in, is_read_again}
 use Rattle.tl_html_print.specs.Places.{a_node, outer_at, places}
 use Rattle.tl_html_print.specs.ReadAgain.{CanBeReadAgain, attribute_read, end_tokens, lowered, tokens_of_trees, unless_empty}
 use Rattle.tl_html_print.specs.Serialized.{end_tag, escaped, is_literal_in, parent_below, serialized, start_tag, unless_void}
 use Rattle.tl_html_spec.proofs.Fold.{all_stays, feeds_read}
 use Rattle.tl_html_spec.specs.Balanced.{is_one_of, is_raw, words}
 use Rattle.tl_html_spec.specs.Driven.{Emission, bare, doctype_of, plain}
-use Rattle.tl_html_spec.specs.HtmlTokenizer.{Character, CommentToken, DoctypeToken, EndTag, HtmlAttribute, HtmlToken, StartTag, data_state, tokens_from, tokens_in_page, with_feeds}
+use Rattle.tl_html_spec.specs.HtmlTokenizer.{Character, CommentToken, DoctypeToken, EndTag, HtmlAttribute, HtmlToken, StartTag, data_state, plaintext, raw, rcdata, tokens_from, tokens_in_page, with_feeds}
 use Rattle.tl_html_spec.specs.Reader.{at, tokens_of}
 use Rattle.tl_html_spec.specs.Sound.{IsSome}
 use Rattle.tl_spec.specs.Lex.ByteClass as C
@@ -272,9 +272,22 @@ trees_where false f h = stays_without_search f h ∙ stays f h
 in_page : (bytes : List ℕ) → tokens_of (at data_state) bytes ≡ tokens_in_page bytes
 in_page bytes = feeds_read false data_state bytes ∙ ap (λ t. tokens_from data_state (with_feeds t)) (all_stays bytes)
 
+-- in a context element of flow content the tokenizer begins in the data state
+no_state : (html a b c : Bool) → (a || b) || c ≡ false → (if html && a then raw (rcdata []) else if html && ((b || c) || false) then plaintext else data_state) ≡ data_state
+no_state true false false false h = refl
+no_state false false false false h = refl
+no_state html true b c h = absurd (true≢false h)
+no_state html false true c h = absurd (true≢false h)
+no_state html false false true h = absurd (true≢false h)
+
+begins_in_data : (v : Bool) (context : Context) → is_raw context.tag.name ≡ false → context_state (by v) context.tag ≡ data_state
+begins_in_data v context h =
+    no_state (is_html context.tag) (is_among rcdata_names context.tag.name) (is_among rawtext_names context.tag.name) (is_one_of (codes "script plaintext") context.tag.name) h
+
 -- texts that stand side by side are one text then
-pub built_joined : (v : Bool) (trees : D.HtmlForest) (f : HtmlForest) → without_numbers trees ≡ whole f → CanBeReadAgain trees → AreLow f → stay (codes "html" ∷ []) f ≡ true → without_numbers (built_in_div v (serialized false None trees)) ≡ whole (normal_form f)
-built_joined v trees f e c l h =
+pub built_joined : (context : Context) → is_flow_context context ≡ true → (v : Bool) (trees : D.HtmlForest) (f : HtmlForest) → without_numbers trees ≡ whole f → CanBeReadAgain trees → AreLow f → stay (codes "html" ∷ []) f ≡ true → without_numbers (built_in context v (serialized false None trees)) ≡ whole (normal_form f)
+built_joined context k v trees f e c l h =
+    let flow = flow_is context k in
     let print = serialized false None trees in
     let read : tokens_in_page print ≡ html_tokens_of f =
     sym (in_page print)
@@ -286,12 +299,12 @@ built_joined v trees f e c l h =
     ∙ tokens_same (codes "html" ∷ []) f l h in
     let named = subst (HavePlainNames (by v)) (sym read) (plain_names v (codes "html" ∷ []) f h) in
     let doctypes = html_doctypes (driven_by_names print) (subst HaveNoDoctype (sym (named_tokens print ∙ read)) (no_doctype f)) in
-    ap without_numbers (bare_fragment (by v) (context_of (bare_tag (codes "div"))) print refl refl named doctypes)
-    ∙ ap (λ ts. without_numbers (fragment_of_tokens (by v) (context_of (bare_tag (codes "div"))) ts)) read
-    ∙ partial_is_whole v (html_tokens_of f) (normal_form f) (trees_where v f h)
+    ap without_numbers (bare_fragment (by v) context print flow.html (begins_in_data v context flow.markup) named doctypes)
+    ∙ ap (λ ts. without_numbers (fragment_of_tokens (by v) context ts)) read
+    ∙ partial_is_whole context v (html_tokens_of f) (normal_form f) k (trees_where v f h)
 
-pub built_again : (v : Bool) (trees : D.HtmlForest) (f : HtmlForest) → without_numbers trees ≡ whole f → CanBeReadAgain trees → AreLow f → stay (codes "html" ∷ []) f ≡ true → is_normal f ≡ true → without_numbers (built_in_div v (serialized false None trees)) ≡ without_numbers trees
-built_again v trees f e c l h n = built_joined v trees f e c l h ∙ ap whole (normal f n) ∙ sym e
+pub built_again : (context : Context) → is_flow_context context ≡ true → (v : Bool) (trees : D.HtmlForest) (f : HtmlForest) → without_numbers trees ≡ whole f → CanBeReadAgain trees → AreLow f → stay (codes "html" ∷ []) f ≡ true → is_normal f ≡ true → without_numbers (built_in context v (serialized false None trees)) ≡ without_numbers trees
+built_again context k v trees f e c l h n = built_joined context k v trees f e c l h ∙ ap whole (normal f n) ∙ sym e
 
 -- names and keys of pages are in lower case
 
@@ -372,18 +385,18 @@ normal_of trees f t a e = absurd (differ (kind (without_numbers trees)) (kind (w
 
 -- The laws
 
-pub node_built_again : (v : Bool) (flags : Flags) (page : List ℕ) (number : ℕ) (parent : Option Tag) (tree : D.HtmlForest) (f : HtmlForest) → slice_get (places None (html_tree_by flags page).trees) number ≡ Some (a_node parent tree) → is_literal_in false parent ≡ false →
-    without_numbers tree ≡ whole f → is_read_again tree ≡ true → stay (codes "html" ∷ []) f ≡ true → is_normal f ≡ true → without_numbers (built_in_div v (outer_at false (html_tree_by flags page).trees number)) ≡ without_numbers tree
-node_built_again v flags page number parent tree f at_number l e r h n =
+pub node_built_again : (around : Context) (v : Bool) (flags : Flags) (page : List ℕ) (number : ℕ) (parent : Option Tag) (tree : D.HtmlForest) (f : HtmlForest) → is_flow_context around ≡ true → slice_get (places None (html_tree_by flags page).trees) number ≡ Some (a_node parent tree) → is_literal_in false parent ≡ false →
+    without_numbers tree ≡ whole f → is_read_again tree ≡ true → stay (codes "html" ∷ []) f ≡ true → is_normal f ≡ true → without_numbers (built_in around v (outer_at false (html_tree_by flags page).trees number)) ≡ without_numbers tree
+node_built_again around v flags page number parent tree f k at_number l e r h n =
     let trees = (html_tree_by flags page).trees in
     let w : AreWritten tree = at_place (places None trees) number (a_node parent tree) (each_written None trees (page_written flags page)) at_number in
-    ap (λ (x : List ℕ). without_numbers (built_in_div v x)) (outer_is trees number parent tree at_number ∙ sym (printed_alike tree parent parent refl) ∙ printed_alike tree parent None l)
-    ∙ built_again v tree f e (can_be tree w r) (low_trees tree f w e) h n
+    ap (λ (x : List ℕ). without_numbers (built_in around v x)) (outer_is trees number parent tree at_number ∙ sym (printed_alike tree parent parent refl) ∙ printed_alike tree parent None l)
+    ∙ built_again around k v tree f e (can_be tree w r) (low_trees tree f w e) h n
 
-pub fragment_built_again : (v : Bool) (flags : Flags) (context : Context) (bytes : List ℕ) (f : HtmlForest) → without_numbers (html_fragment_by flags context bytes) ≡ whole f → is_read_again (html_fragment_by flags context bytes) ≡ true → stay (codes "html" ∷ []) f ≡ true →
-    without_numbers (built_in_div v (serialized false None (html_fragment_by flags context bytes))) ≡ without_numbers (html_fragment_by flags context bytes)
-fragment_built_again v flags context bytes f e r h =
+pub fragment_built_again : (around : Context) (v : Bool) (flags : Flags) (context : Context) (bytes : List ℕ) (f : HtmlForest) → is_flow_context around ≡ true → without_numbers (html_fragment_by flags context bytes) ≡ whole f → is_read_again (html_fragment_by flags context bytes) ≡ true → stay (codes "html" ∷ []) f ≡ true →
+    without_numbers (built_in around v (serialized false None (html_fragment_by flags context bytes))) ≡ without_numbers (html_fragment_by flags context bytes)
+fragment_built_again around v flags context bytes f k e r h =
     let trees = html_fragment_by flags context bytes in
     let w = fragment_written flags context bytes in
     let t = fragment_texts flags context bytes in
-    built_again v trees f e (can_be trees w r) (low_trees trees f w e) h (normal_of trees f t.0 t.1 e)
+    built_again around k v trees f e (can_be trees w r) (low_trees trees f w e) h (normal_of trees f t.0 t.1 e)

@@ -4,11 +4,11 @@
 -- What no page has, whatever stands in its bytes, is no case: names, keys and comments of pages are
 -- always read again (laws `pages_are_read_again`, `fragments_are_read_again`).
 use Rattle.std.specs.List.{list_all, list_any}
-use Rattle.std.specs.Prelude.{Bool, List, [], codes, false, if◌then◌else◌, not, true, ℕ, ◌&&◌, ◌++◌, ◌==◌, ◌||◌, ◌∷◌}
+use Rattle.std.specs.Prelude.{Bool, List, [], false, if◌then◌else◌, not, true, ℕ, ◌&&◌, ◌++◌, ◌==◌, ◌||◌, ◌∷◌}
 use Rattle.std.specs.Str.{bytes_eq}
 use Rattle.tl_dom_spec.specs.HtmlForest.{HtmlForest, comment, doctype, element, no_trees, text}
-use Rattle.tl_dom_spec.specs.HtmlTree.{context_of, html_fragment_by, standard}
-use Rattle.tl_dom_spec.specs.Tags.{Attribute, Tag, bare_tag, is_html}
+use Rattle.tl_dom_spec.specs.HtmlTree.{Context, html_fragment_by, standard}
+use Rattle.tl_dom_spec.specs.Tags.{Attribute, Tag, is_html}
 use Rattle.tl_html_print.specs.ReadAgain.{attribute_read, is_kept, lowered}
 use Rattle.tl_html_print.specs.Serialized.{end_tag, parent_below, serialized_text}
 use Rattle.tl_html_spec.specs.Balanced.{is_raw}
@@ -78,8 +78,7 @@ is_read_again (element tag below more) =
 
 -- Built again
 
--- the trees of a text in a `div`, whether `search` is a special element or not
-abbrev pub built_in_div : Bool → List ℕ → HtmlForest
-built_in_div counts_search bytes =
-    html_fragment_by (record standard { counts_search = counts_search })
-    (context_of (bare_tag (codes "div"))) bytes
+-- the trees of a text in a context element, whether `search` is a special element or not
+abbrev pub built_in : Context → Bool → List ℕ → HtmlForest
+built_in context counts_search bytes =
+    html_fragment_by (record standard { counts_search = counts_search }) context bytes

@@ -5,9 +5,9 @@ ghost use Rattle.tl_dom_spec.specs.Builder.{Flags};
 ghost use Rattle.tl_dom_spec.specs.HtmlForest.{HtmlForest, element, no_trees, text};
 ghost use Rattle.tl_dom_spec.specs.HtmlTree.{Context, html_fragment_by, html_tree_by};
 ghost use Rattle.tl_dom_spec.specs.Marks.{Marked};
-ghost use Rattle.tl_dom_spec.specs.Partial.{whole, without_numbers};
+ghost use Rattle.tl_dom_spec.specs.Partial.{is_flow_context, whole, without_numbers};
 ghost use Rattle.tl_dom_spec.specs.Tags.{Attribute, Tag};
-ghost use Rattle.tl_html_print.specs.Again.{built_in_div, ends_itself, is_read_again};
+ghost use Rattle.tl_html_print.specs.Again.{built_in, ends_itself, is_read_again};
 ghost use Rattle.tl_html_print.specs.Places.{a_node, inner_at, outer_at, places};
 ghost use Rattle.tl_html_print.specs.Pretty.{laid_out, without_white};
 ghost use Rattle.tl_html_print.specs.ReadAgain.{CanBeReadAgain, HoldsItself, IsReadAs, end_tokens, html_element, is_kept_in_value, is_plain_comment, is_plain_raw, lowered, tokens_of_trees, unless_empty};
@@ -119,26 +119,28 @@ pub fn texts_end_themselves_exactly()
 {}
 
 /// Where the trees of a fragment stay (`stay` of `tl_tree_spec`) and are read again, the standard
-/// builds of their print just these trees in a `div`, but for the numbers of start tags; and so of
-/// the print of a node of a page.
+/// builds of their print just these trees in each context element of flow content (`around`), but
+/// for the numbers of start tags; and so of the print of a node of a page.
 pub fn prints_are_built_again()
-    ensures fragment { (counts_search : Bool) (flags : Flags) (context : Context)
-        (bytes : List ℕ) (f : PartialForest) →
+    ensures fragment { (around : Context) (counts_search : Bool) (flags : Flags)
+        (context : Context) (bytes : List ℕ) (f : PartialForest) →
+        is_flow_context around ≡ true →
         without_numbers (html_fragment_by flags context bytes) ≡ whole f →
         is_read_again (html_fragment_by flags context bytes) ≡ true →
         stay (codes "html" ∷ []) f ≡ true →
         without_numbers
-        (built_in_div counts_search
+        (built_in around counts_search
         (serialized false None (html_fragment_by flags context bytes)))
         ≡ without_numbers (html_fragment_by flags context bytes) }
-    ensures node { (counts_search : Bool) (flags : Flags) (page : List ℕ) (number : ℕ)
-        (parent : Option Tag) (tree : HtmlForest) (f : PartialForest) →
+    ensures node { (around : Context) (counts_search : Bool) (flags : Flags)
+        (page : List ℕ) (number : ℕ) (parent : Option Tag) (tree : HtmlForest)
+        (f : PartialForest) → is_flow_context around ≡ true →
         slice_get (places None (html_tree_by flags page).trees) number
         ≡ Some (a_node parent tree) →
         is_literal_in false parent ≡ false → without_numbers tree ≡ whole f →
         is_read_again tree ≡ true → stay (codes "html" ∷ []) f ≡ true → is_normal f ≡ true →
         without_numbers
-        (built_in_div counts_search (outer_at false (html_tree_by flags page).trees number))
+        (built_in around counts_search (outer_at false (html_tree_by flags page).trees number))
         ≡ without_numbers tree }
 {}
 

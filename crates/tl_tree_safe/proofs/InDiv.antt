@@ -1,10 +1,10 @@
 -- A print of what a policy keeps of a text is read and built again as it is printed.
 use Rattle.std.proofs.Common.{Bool, List, None, ap, codes, false, true, ℕ, ◌++◌, ◌∙◌, ◌≡◌}
 use Rattle.tl_dom_spec.specs.HtmlForest.{HtmlForest}
-use Rattle.tl_dom_spec.specs.HtmlTree.{context_of, html_fragment, standard}
-use Rattle.tl_dom_spec.specs.Partial.{without_numbers}
+use Rattle.tl_dom_spec.specs.HtmlTree.{Context, context_of, html_fragment, standard}
+use Rattle.tl_dom_spec.specs.Partial.{is_flow_context, without_numbers}
 use Rattle.tl_dom_spec.specs.Tags.{bare_tag}
-use Rattle.tl_html_print.specs.Again.{built_in_div}
+use Rattle.tl_html_print.specs.Again.{built_in}
 use Rattle.tl_html_print.specs.ReadAgain.{tokens_of_trees}
 use Rattle.tl_html_print.specs.Serialized.{serialized}
 use Rattle.tl_html_spec.specs.HtmlTokenizer.{data_state}
@@ -27,8 +27,8 @@ module _ (p : ListedWords) (l : lists_words p ≡ true) (text page : List ℕ) (
   pub read : (rest : List ℕ) → tokens_of (at data_state) (page ++ rest) ≡ tokens_of_trees (kept_in_div p text) ++ tokens_of (at data_state) rest
   read rest = ap (λ (x : List ℕ). tokens_of (at data_state) (x ++ rest)) is ∙ safe.read p trees rest l keys
 
-  pub built : (v : Bool) → without_numbers (built_in_div v page) ≡ without_numbers (texts_joined (kept_in_div p text))
-  built v = ap (λ (x : List ℕ). without_numbers (built_in_div v x)) is ∙ safe.built v p trees l keys
+  pub built : (context : Context) → is_flow_context context ≡ true → (v : Bool) → without_numbers (built_in context v page) ≡ without_numbers (texts_joined (kept_in_div p text))
+  built context flow v = ap (λ (x : List ℕ). without_numbers (built_in context v x)) is ∙ safe.built context v p trees flow l keys
 
   pub listed : are_listed p (tokens_of (at data_state) page) ≡ true
   listed = ap (λ (x : List ℕ). are_listed p (tokens_of (at data_state) x)) is ∙ safe.listed p trees l keys

@@ -19,4 +19,5 @@ pub mod Inner
 pub mod InDiv
 pub mod Removed
 pub mod Causes
+pub mod ShownNames
 pub mod RemovedLines

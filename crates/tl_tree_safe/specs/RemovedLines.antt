@@ -12,6 +12,7 @@ use Rattle.tl_tree_safe.specs.Causes.{cause_words}
 use Rattle.tl_tree_safe.specs.InDiv.{div}
 use Rattle.tl_tree_safe.specs.Lists.{ListedWords}
 use Rattle.tl_tree_safe.specs.Removed.{Gone, removed}
+use Rattle.tl_tree_safe.specs.ShownNames.{shown}
 
 -- `LINE:COLUMN:` of a byte
 abbrev pub place_words : List ℕ → ℕ → List ℕ
@@ -21,11 +22,11 @@ place_words text at =
 -- ` KEY` of an attribute
 abbrev pub key_words : Option (List ℕ) → List ℕ
 key_words None = []
-key_words (Some key) = 32 ∷ key
+key_words (Some key) = 32 ∷ shown key
 
 -- ` <NAME>: ` of an element, ` <NAME KEY>: ` of an attribute
 abbrev pub tag_words : List ℕ → Option (List ℕ) → List ℕ
-tag_words name key = codes " <" ++ (name ++ (key_words key ++ codes ">: "))
+tag_words name key = codes " <" ++ (shown name ++ (key_words key ++ codes ">: "))
 
 -- the line of what went, which stands at its start tag
 abbrev pub line_of : List ℕ → List ℕ → Source → List ℕ → Gone → List ℕ

@@ -1,9 +1,9 @@
 //! Texts made safe for a browser.
 ghost use Rattle.std.specs.Prelude.{Bool, IfErr, IfOk, List, None, false, true, ℕ, ◌++◌, ◌≡◌};
 ghost use Rattle.tl_dom_spec.specs.HtmlForest.{HtmlForest};
-ghost use Rattle.tl_dom_spec.specs.HtmlTree.{context_of, html_fragment, standard};
-ghost use Rattle.tl_dom_spec.specs.Partial.{without_numbers};
-ghost use Rattle.tl_html_print.specs.Again.{built_in_div};
+ghost use Rattle.tl_dom_spec.specs.HtmlTree.{Context as ContextElement, context_of, html_fragment, standard};
+ghost use Rattle.tl_dom_spec.specs.Partial.{is_flow_context, without_numbers};
+ghost use Rattle.tl_html_print.specs.Again.{built_in};
 ghost use Rattle.tl_html_print.specs.ReadAgain.{tokens_of_trees};
 ghost use Rattle.tl_html_print.specs.Serialized.{serialized};
 ghost use Rattle.tl_html_spec.specs.HtmlTokenizer.{data_state, without_mark};
@@ -87,9 +87,11 @@ pub fn sanitize_fragment(
         ≡ tokens_of_trees (kept_in_div (lists_of policy.now) text.now)
         ++ tokens_of (at data_state) rest) }
 
-    // The standard's tree construction builds exactly its trees in a `div`.
-    ensures built { (counts_search : Bool) → IfOk result (λ page.
-        without_numbers (built_in_div counts_search page.items)
+    // The standard's tree construction builds exactly its trees in each context element of flow
+    // content, as `div`, `body`, `li` and `td`.
+    ensures built { (context : ContextElement) (counts_search : Bool) →
+        is_flow_context context ≡ true → IfOk result (λ page.
+        without_numbers (built_in context counts_search page.items)
         ≡ without_numbers (texts_joined (kept_in_div (lists_of policy.now) text.now))) }
     ensures listed { IfOk result (λ page.
         are_listed (lists_of policy.now) (tokens_of (at data_state) page.items) ≡ true) }

@@ -4,9 +4,9 @@ ghost use Rattle.std.specs.Prelude.{Bool, List, None, false, length, nat_le, not
 ghost use Rattle.tl_dom_spec.specs.Builder.{Flags};
 ghost use Rattle.tl_dom_spec.specs.HtmlForest.{HtmlForest, element};
 ghost use Rattle.tl_dom_spec.specs.HtmlTree.{Context, html_fragment_by, html_tree_by};
-ghost use Rattle.tl_dom_spec.specs.Partial.{without_numbers};
+ghost use Rattle.tl_dom_spec.specs.Partial.{is_flow_context, without_numbers};
 ghost use Rattle.tl_dom_spec.specs.Tags.{Tag};
-ghost use Rattle.tl_html_print.specs.Again.{built_in_div};
+ghost use Rattle.tl_html_print.specs.Again.{built_in};
 ghost use Rattle.tl_html_print.specs.ReadAgain.{tokens_of_trees};
 ghost use Rattle.tl_html_print.specs.Serialized.{serialized};
 ghost use Rattle.tl_html_spec.specs.HtmlTokenizer.{data_state};
@@ -65,18 +65,19 @@ pub fn pages_have_own_keys()
 
 /// Of what is printed of any trees, of what a policy keeps of them and made to stay: the tokenizer
 /// of the standard reads exactly its tags and texts, and then what follows it; its tree
-/// construction builds exactly these trees in a `div`, with texts that stand side by side joined,
-/// but for the numbers of start tags, whether `search` is a special element or not; and all that is
-/// read is listed.
+/// construction builds exactly these trees in each context element of flow content, with texts that
+/// stand side by side joined, but for the numbers of start tags, whether `search` is a special
+/// element or not; and all that is read is listed.
 #[tactic(auto, using(crate::proofs::Safe::read, crate::proofs::Safe::built, crate::proofs::Safe::listed))]
 pub fn kept_trees_that_are_fitted_stay()
     ensures read { (p : ListedWords) (trees : HtmlForest) (rest : List ℕ) →
         lists_words p ≡ true → HaveOwnKeys trees →
         tokens_of (at data_state) (serialized false None (kept_fitted p trees) ++ rest)
         ≡ tokens_of_trees (kept_fitted p trees) ++ tokens_of (at data_state) rest }
-    ensures built { (counts_search : Bool) (p : ListedWords) (trees : HtmlForest) →
+    ensures built { (context : Context) (counts_search : Bool) (p : ListedWords)
+        (trees : HtmlForest) → is_flow_context context ≡ true →
         lists_words p ≡ true → HaveOwnKeys trees →
-        without_numbers (built_in_div counts_search
+        without_numbers (built_in context counts_search
         (serialized false None (kept_fitted p trees)))
         ≡ without_numbers (texts_joined (kept_fitted p trees)) }
     ensures listed { (p : ListedWords) (trees : HtmlForest) →

@@ -25,6 +25,7 @@ mod removal;
 mod removed_lines;
 mod removed_rows;
 mod sanitizer;
+mod shown_names;
 mod start_tag;
 mod telling;
 mod texts;

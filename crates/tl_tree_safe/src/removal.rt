@@ -15,9 +15,9 @@ pub enum Cause {
     ForeignTag,
     /// The tag is listed, and may not stand where it is: what is in it stands in its place.
     MisplacedTag,
-    /// The key isn't listed.
+    /// The attribute isn't listed.
     UnlistedKey,
-    /// The value may not stand at its key, as a link that begins with what no link may.
+    /// The value may not stand in its attribute, as a link that begins with what no link may.
     UnlistedValue,
 }
 
@@ -31,7 +31,7 @@ impl Cause {
             Cause::OpaqueTag => "what is in it isn't shown as markup",
             Cause::ForeignTag => "it is no element of HTML",
             Cause::MisplacedTag => "the tag may not stand here",
-            Cause::UnlistedKey => "the key isn't listed",
+            Cause::UnlistedKey => "the attribute isn't listed",
             Cause::UnlistedValue => "the value may not stand here",
         }
     }
@@ -48,7 +48,7 @@ impl fmt::Display for Cause {
 pub struct Removal<'t> {
     /// The number of the element in the tree.
     pub node: usize,
-    /// The key of the attribute; without one the element itself goes.
+    /// The name of the attribute; without one the element itself goes.
     pub key: Option<&'t [u8]>,
     pub cause: Cause,
 }

@@ -6,6 +6,7 @@ ghost use Rattle.tl_tree_safe.specs.Removed.{gone_of};
 ghost use Rattle.tl_tree_safe.specs.RemovedLines.{place_words, removed_line, removed_lines, tag_words, written_name};
 
 use crate::removal::Removal;
+use crate::shown_names::put_shown;
 use std::alloc::{AllocError, Global};
 use tl_lines::LineIndex;
 use tl_tree::Tree;
@@ -33,10 +34,10 @@ fn put_tag(name: &[u8], key: Option<&[u8]>, out: &mut Vec<u8>) -> Result<(), All
         ≡ out.old.items ++ tag_words name.now (option_copied key.entry)) }
 {
     out.extend_from_slice(b" <")?;
-    out.extend_from_slice(name)?;
+    put_shown(name, out)?;
     if let Some(key) = key {
         out.push(b' ')?;
-        out.extend_from_slice(key)?;
+        put_shown(key, out)?;
     }
     out.extend_from_slice(b">: ")
 }

@@ -1,7 +1,8 @@
 //! Worked rows: texts, and what goes of their trees.
 
-ghost use Rattle.std.specs.Prelude.{[], ◌∷◌, ◌≡◌};
+ghost use Rattle.std.specs.Prelude.{[], codes, ◌++◌, ◌∷◌, ◌≡◌};
 ghost use Rattle.tl_tree_safe.specs.Examples.{key_goes, removed_in, tag_goes};
+ghost use Rattle.tl_tree_safe.specs.ShownNames.{shown};
 ghost use Rattle.tl_tree_safe.specs.declared.removal.Cause.TheVariants.{ForeignTag, MisplacedTag, OpaqueTag, UnlistedKey, UnlistedTag, UnlistedValue};
 
 /// Elements that go, alone or with what is in them.
@@ -27,4 +28,13 @@ pub fn attributes()
     ensures value { removed_in "a<a href=javascript:b title=c>"
         ≡ key_goes 1 "href" UnlistedValue ∷ [] }
     ensures of_one_that_goes { removed_in "<i onclick=a>" ≡ tag_goes 0 UnlistedTag ∷ [] }
+{}
+
+/// Names as they are shown.
+pub fn shown_names()
+    ensures plain { shown (codes "data-x:y") ≡ codes "data-x:y" }
+    ensures escape { shown (codes "a" ++ 27 ∷ codes "[31m") ≡ codes "a" ++ 92 ∷ codes "x1b[31m" }
+    ensures backslash { shown (92 ∷ []) ≡ 92 ∷ codes "x5c" }
+    ensures delete { shown (127 ∷ []) ≡ 92 ∷ codes "x7f" }
+    ensures beyond_ascii { shown (194 ∷ 155 ∷ []) ≡ 92 ∷ codes "xc2" ++ 92 ∷ codes "x9b" }
 {}

@@ -13,9 +13,9 @@ returns-clause-read c = λ rest.
     (c.in-Ok.ensures (html_fragment div c.args.text.now) c.in_ok-tree.ensures.tree) rest
 
 pub returns-clause-built : goal.returns-clause-built
-returns-clause-built c = λ counts_search.
+returns-clause-built c = λ context counts_search flow.
     built (lists_of c.args.policy.now) c.args.policy.now.words c.args.text.now c.in-Ok.page.items
-    (c.in-Ok.ensures (html_fragment div c.args.text.now) c.in_ok-tree.ensures.tree) counts_search
+    (c.in-Ok.ensures (html_fragment div c.args.text.now) c.in_ok-tree.ensures.tree) context flow counts_search
 
 pub returns-clause-listed : goal.returns-clause-listed
 returns-clause-listed c =
