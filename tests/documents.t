@@ -171,5 +171,5 @@ Tables, and statuses of `tl`:
   $ tl table --number 2 prices.html
   [1]
   $ tl print none
-  tl: none: No such file or directory (os error 2) (err)
+  tl: none: No such file or directory (err)
   [4]

@@ -87,7 +87,7 @@ That nothing is found is no failure, where that is said.
   <p>y
   $ tl remove --ok -i i two
   $ tl set --ok p k v none
-  tl: none: No such file or directory (os error 2) (err)
+  tl: none: No such file or directory (err)
   [4]
 
 How many places each page has is said on standard error.
@@ -105,7 +105,7 @@ How many places each page has is said on standard error.
   tl: three: 0 places (err)
   [1]
   $ tl set -v p k v none
-  tl: none: No such file or directory (os error 2) (err)
+  tl: none: No such file or directory (err)
   [4]
 
 What changes is written as a diff; with -i the page is changed too.
@@ -201,7 +201,7 @@ A text may come from a file, or from standard input; one that begins with @ has 
   $ tl append p '- x' page 2>&1 | head -1
   error: unexpected argument '- ' found
   $ tl append p @none page
-  tl: none: No such file or directory (os error 2) (err)
+  tl: none: No such file or directory (err)
   [4]
   $ printf '\377' >wrong
   $ tl append p @wrong page

@@ -176,7 +176,7 @@ In their files: each is replaced at once, keeps its mode, and is not touched whe
   2001
   $ cp page other
   $ tl set -i b class n page missing other
-  tl: missing: No such file or directory (os error 2) (err)
+  tl: missing: No such file or directory (err)
   [4]
   $ grep -o 'CLASS="n"' page other
   page:CLASS="n"
@@ -224,7 +224,7 @@ What is no regular file stays as it is.
 A failed write leaves the old page, and nothing beside it.
 
   $ (trap '' XFSZ; ulimit -f 0; tl set -i a href /q page 2>&1; echo $?) | cat
-  tl: page: File too large (os error 27)
+  tl: page: File too large
   4
   $ grep -o 'HREF="/[a-z]"' page
   HREF="/z"
@@ -232,7 +232,7 @@ A failed write leaves the old page, and nothing beside it.
   page
   page.old
   $ tl set a href /q page >/dev/full
-  tl: standard output: No space left on device (os error 28) (err)
+  tl: standard output: No space left on device (err)
   [4]
   $ mkdir folder
   $ tl set -i a k v folder
@@ -501,13 +501,13 @@ In their files.
   2001
   $ cp list third
   $ tl fill -i li n copy missing third
-  tl: missing: No such file or directory (os error 2) (err)
+  tl: missing: No such file or directory (err)
   [4]
   $ grep -c '<li>n' copy third
   copy:1
   third:1
   $ (trap '' XFSZ; ulimit -f 0; tl remove -i li third 2>&1; echo $?) | cat
-  tl: third: File too large (os error 27)
+  tl: third: File too large
   4
   $ grep -c '<li>n' third
   1

@@ -57,7 +57,7 @@ The backup has the owner and the mode of the page, and stays where a later write
 
   $ stat -c '%u:%g %a' page.old | cmp - was
   $ (trap '' XFSZ; ulimit -f 0; tl set --backup .old a k z page 2>&1; echo $?) | cat
-  tl: page: File too large (os error 27)
+  tl: page: File too large
   4
   $ cat page page.old
   <a k="x" href=/x>y</a>
@@ -72,7 +72,7 @@ So does an earlier backup where the new page can't be written whole, which shows
   $ printf '<p>1' >small
   $ echo earlier >small.old
   $ (trap '' XFSZ; ulimit -f 2; tl set --backup .old p k "$(head -c 5000 /dev/zero | tr '\0' v)" small 2>&1; echo $?) | cat
-  tl: small: File too large (os error 27)
+  tl: small: File too large
   4
   $ cat small small.old
   <p>1earlier
@@ -82,10 +82,10 @@ So does an earlier backup where the new page can't be written whole, which shows
   $ (printf '<p>'; head -c 100000 /dev/zero | tr '\0' a) >long
   $ cp long same
   $ (trap '' XFSZ; ulimit -f 50; tl set -i p k v long 2>&1; echo $?) | cat
-  tl: long: File too large (os error 27)
+  tl: long: File too large
   4
   $ (trap '' XFSZ; ulimit -f 50; tl fill -i p "$(cat long)" small 2>&1; echo $?) | cat
-  tl: small: File too large (os error 27)
+  tl: small: File too large
   4
   $ cmp long same; cat small; ls long* small*
   <p>1long
@@ -165,7 +165,7 @@ The name of the new file is one that is free; where a hundred are taken, that is
 What can't be done leaves the old page, and nothing beside it: where a backup can't be written, and of what is no regular file.
 
   $ tl set --backup /none a k z page
-  tl: page: Not a directory (os error 20) (err)
+  tl: page: Not a directory (err)
   [4]
   $ cat page
   <a k="y" href=/x>y</a>
@@ -189,21 +189,21 @@ A page that may not be read, and one in a folder that may not be written, are to
   $ chmod 0 closed
   $ chmod 555 kept
   $ sh plainly tl set -i p k v closed kept/page third
-  tl: closed: Permission denied (os error 13) (err)
-  tl: kept/page: Permission denied (os error 13) (err)
+  tl: closed: Permission denied (err)
+  tl: kept/page: Permission denied (err)
   [4]
   $ sh plainly tl set --backup .old p k v closed kept/page
-  tl: closed: Permission denied (os error 13) (err)
-  tl: kept/page: Permission denied (os error 13) (err)
+  tl: closed: Permission denied (err)
+  tl: kept/page: Permission denied (err)
   [4]
   $ sh plainly tl select -c p closed kept third
   third:1
-  tl: closed: Permission denied (os error 13) (err)
+  tl: closed: Permission denied (err)
   tl: kept: is a directory; kept/*.html names the pages in it (err)
   [4]
   $ sh plainly tl text closed third
   third:1
-  tl: closed: Permission denied (os error 13) (err)
+  tl: closed: Permission denied (err)
   [4]
   $ chmod 600 closed
   $ chmod 755 kept
@@ -226,10 +226,10 @@ Where what is written can't be, no further page is looked at.
 
   $ cp page second
   $ tl set a k z page second >/dev/full
-  tl: standard output: No space left on device (os error 28) (err)
+  tl: standard output: No space left on device (err)
   [4]
   $ tl set --dry-run a k z page second >/dev/full
-  tl: standard output: No space left on device (os error 28) (err)
+  tl: standard output: No space left on device (err)
   [4]
 
 Columns are bytes, from 1, and a line ends with its line feed.
@@ -298,5 +298,5 @@ What is no page is named by its first bytes, and of a folder or an address in th
   $ tl text https://x.org/a http://x.org/ ftp://x.org/
   tl: https://x.org/a: no such file; curl -sL 'https://x.org/a' | tl .. reads a page of the web (err)
   tl: http://x.org/: no such file; curl -sL 'http://x.org/' | tl .. reads a page of the web (err)
-  tl: ftp://x.org/: No such file or directory (os error 2) (err)
+  tl: ftp://x.org/: No such file or directory (err)
   [4]

@@ -766,6 +766,6 @@ What goes is told on standard error by `--removed`, each with the place of its s
   $ printf '<p>a' | tl sanitize --removed
   <p>a</p> (no-eol)
   $ tl sanitize --removed gone.html none 2>&1 >/dev/null | tail -1
-  tl: none: No such file or directory (os error 2)
+  tl: none: No such file or directory
   $ tl sanitize --removed --policy 2>&1 | head -1
   error: the argument '--removed' cannot be used with '--policy'

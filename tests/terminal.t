@@ -50,7 +50,7 @@ Help and what is said of errors have none either.
   0
   [1]
   $ grep -A1 'none:' shown
-  \x1b[Ktl: none: No such file or directory (os error 2) (esc)
+  \x1b[Ktl: none: No such file or directory (esc)
 
 How far the work is, is said on standard error where there are more than a hundred files, behind what stands on the line, and goes before anything else is written.
 
@@ -63,7 +63,7 @@ How far the work is, is said on standard error where there are more than a hundr
   [K
   7
   [Ktl: file 2 of 104
-  [Ktl: none: No such file or directory (os error 2)
+  [Ktl: none: No such file or directory
   $ python3 terminal.py 'tl select -q i *.html 2>said; wc -c <said'
   0\x0d (esc)
   $ python3 terminal.py 'tl select -q i [1-9].html a.html b.html' | tr '\033' '\n' | grep -c file
@@ -79,7 +79,7 @@ How far the work is, is said on standard error where there are more than a hundr
   $ wc -l <said
   104
   $ tl select -q i *.html none
-  tl: none: No such file or directory (os error 2) (err)
+  tl: none: No such file or directory (err)
   [4]
 
 It is said of a long page too.

@@ -207,10 +207,10 @@ Of each page the first nodes alone; whether there are some; the files that have 
   $ python3 -c 'print("<p>" * 70001)' | tl select -c -m 70000 p
   70000
   $ tl select --quiet -a class li none shelf none
-  tl: none: No such file or directory (os error 2) (err)
+  tl: none: No such file or directory (err)
   $ tl select -q b page none
   $ tl select -q dd page none
-  tl: none: No such file or directory (os error 2) (err)
+  tl: none: No such file or directory (err)
   [4]
   $ tl select -l li page shelf
   shelf
@@ -464,8 +464,8 @@ The names of files are taken as they stand.
   $ tl print 'x '
   <html><head></head><body><p>a</p></body></html> (no-eol)
   $ tl print x ' x'
-  tl: x: No such file or directory (os error 2) (err)
-  tl:  x: No such file or directory (os error 2) (err)
+  tl: x: No such file or directory (err)
+  tl:  x: No such file or directory (err)
   [4]
 
 Nothing was found, or something is refused or not understood.
@@ -536,10 +536,10 @@ Nothing was found, or something is refused or not understood.
   tl: words: invalid UTF-8 (err)
   [2]
   $ tl print <.
-  tl: -: Is a directory (os error 21) (err)
+  tl: -: Is a directory (err)
   [4]
   $ tl print - <&-
-  tl: -: Bad file descriptor (os error 9) (err)
+  tl: -: Bad file descriptor (err)
   [4]
   $ mkdir folder && tl print folder
   tl: folder: is a directory; folder/*.html names the pages in it (err)
@@ -656,13 +656,13 @@ Pages in files.
   one:<p>one</p>
   two:<p>two
   two:<b></b></p>
-  tl: none: No such file or directory (os error 2) (err)
+  tl: none: No such file or directory (err)
   [4]
   $ tl print none
-  tl: none: No such file or directory (os error 2) (err)
+  tl: none: No such file or directory (err)
   [4]
   $ tl print ''
-  tl: : No such file or directory (os error 2) (err)
+  tl: : No such file or directory (err)
   [4]
 
 Pages made safe.
@@ -918,19 +918,19 @@ Pages that can't be had are passed over, and the greatest status counts.
   [2]
   $ tl sanitize --no-name a.html none b.html
   <p>a</p><b>b</b> (no-eol)
-  tl: none: No such file or directory (os error 2) (err)
+  tl: none: No such file or directory (err)
   [4]
   $ tl sanitize --strict none bytes.html
-  tl: none: No such file or directory (os error 2) (err)
+  tl: none: No such file or directory (err)
   tl: bytes.html: invalid UTF-8 at byte 0; --encoding names the encoding (err)
   [4]
   $ tl sanitize --strict bytes.html none
   tl: bytes.html: invalid UTF-8 at byte 0; --encoding names the encoding (err)
-  tl: none: No such file or directory (os error 2) (err)
+  tl: none: No such file or directory (err)
   [4]
   $ printf '<i>x</i>' | tl sanitize --no-name none -
   <i>x</i> (no-eol)
-  tl: none: No such file or directory (os error 2) (err)
+  tl: none: No such file or directory (err)
   [4]
   $ tl sanitize .
   tl: .: is a directory; ./*.html names the pages in it (err)
@@ -1074,25 +1074,25 @@ Help names each command and each option, and words the lists.
 Where nothing can be written, that is said once, and no more is read.
 
   $ tl --help >/dev/full
-  tl: standard output: No space left on device (os error 28) (err)
+  tl: standard output: No space left on device (err)
   [4]
   $ tl --version >/dev/full
-  tl: standard output: No space left on device (os error 28) (err)
+  tl: standard output: No space left on device (err)
   [4]
   $ tl sanitize --policy >/dev/full
-  tl: standard output: No space left on device (os error 28) (err)
+  tl: standard output: No space left on device (err)
   [4]
   $ printf '<p>' | tl print >/dev/full
-  tl: standard output: No space left on device (os error 28) (err)
+  tl: standard output: No space left on device (err)
   [4]
   $ printf '<p>' | { tl select p one - two >/dev/full; cat; }
   <p> (no-eol)
-  tl: standard output: No space left on device (os error 28) (err)
+  tl: standard output: No space left on device (err)
   $ tl sanitize a.html none >/dev/full
-  tl: standard output: No space left on device (os error 28) (err)
+  tl: standard output: No space left on device (err)
   [4]
   $ tl print one two >&-
-  tl: standard output: Bad file descriptor (os error 9) (err)
+  tl: standard output: Bad file descriptor (err)
   [4]
 
 Where what is written is read no more, nothing is said, and the status is that of a closed pipe.

@@ -51,11 +51,22 @@ pub fn report_failure(rt: &HostRuntime, name: &str, failure: Failure) -> Failure
     failure
 }
 
+// What the system says of an error, without the number that it has there.
+fn without_number(words: &str) -> &str {
+    match words.split_once(" (os error ") {
+        Some((words, _)) => words,
+        None => words,
+    }
+}
+
 /// Says on standard error why a read or a write of what is named failed, in the system's words.
 pub fn report_error(rt: &HostRuntime, name: &str, error: &io::Error) -> Failure {
     let failure = failure_of(error);
     if failure == Failure::OutOfMemory {
         report(rt, name, failure);
+    } else if let Ok(said) = format!(in rt.alloc(); "{error}") {
+        let words = without_number(said.as_str());
+        let _ = eprintln!(rt; "tl: {name}: {words}");
     } else {
         let _ = eprintln!(rt; "tl: {name}: {error}");
     }
