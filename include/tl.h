@@ -133,7 +133,7 @@ static inline tl_list tl_list_of(const char *words) {
     return list;
 }
 
-/* Why lists are no policy. */
+/* Why lists are an invalid policy. */
 enum {
     TL_NO_REASON = 0,
     TL_MALFORMED_TAG = 1,    /* a tag name is a letter a-z, then letters and digits */
@@ -493,7 +493,7 @@ enum {
     TL_UNSET = 1 /* the key goes; the value isn't read, and its length may be 0 */
 };
 
-/* Why tags can't be changed so, beside the causes above; then the place is one of the page. */
+/* Why tags can't be edited this way, beside the causes above; then the place is one of the page. */
 enum {
     TL_NO_START_TAG = 16,  /* the tokenizer by itself reads no start tag here, as in a `title` of an `svg` */
     TL_NOT_WRITTEN = 17,   /* this key or this value can't be written in the tag that begins here; keys are in lower case */
@@ -549,7 +549,7 @@ enum {
     TL_AS_MARKUP = 1 /* markup, as it is */
 };
 
-/* Why elements can't be changed so, beside the causes above; the place is that of the element in the page, also with
+/* Why elements can't be edited this way, beside the causes above; the place is that of the element in the page, also with
  * TL_READ_OTHERWISE, but with TL_NOT_WHOLE that of what crosses it. */
 enum {
     TL_NOT_MEANT = 19,   /* the element isn't closed, is a tag alone, or it is a body or html, after which nothing can stand */

@@ -48,6 +48,5 @@ def faults():
     lines = [(f"{path}:{number}", line) for path in read for number, line in prose(text_of(f"{ROOT}/{path}"))]
     workspace = Workspace()
     said = [it for crate in workspace.libraries if not crate.endswith("_tests") for it in strings(crate, workspace)]
-    for heading, places in (("Words", [*lines, *said]), ("Words of documents alone", lines)):
-        for better, words in rows(heading):
-            yield from (f"{place}: `{found[0]}`: write {better} ({STYLE})" for place, line in places for found in words.finditer(line))
+    for better, words in rows("Words"):
+        yield from (f"{place}: `{found[0]}`: write {better} ({STYLE})" for place, line in (*lines, *said) for found in words.finditer(line))

@@ -105,7 +105,7 @@ class OutOfProportion(Error, ValueError):
 
 
 class SelectorError(Error, ValueError):
-    """A text is invalid selector: the place of the first character that is wrong, and why."""
+    """A text is an invalid selector: the place of the first character that is wrong, and why."""
 
     def __init__(self, selector: str, place: int, cause: int) -> None:
         self.selector, self.place, self.cause = selector, place, cause
@@ -125,7 +125,7 @@ class SelectorError(Error, ValueError):
 
 
 class PolicyError(Error, ValueError):
-    """Lists are no policy: the first word that none may list, and why, which says in which list it stands."""
+    """Lists are an invalid policy: the first word that no policy can allow, and why, which says in which list it stands."""
 
     def __init__(self, word: str, reason: int) -> None:
         self.word, self.reason = word, reason
@@ -136,7 +136,7 @@ class PolicyError(Error, ValueError):
 
 
 class ChangeError(Error, ValueError):
-    """A tag or an element can't be changed so: the place in the page where it begins, and why."""
+    """A tag or an element can't be edited this way: the place in the page where it begins, and why."""
 
     def __init__(self, place: int, cause: int) -> None:
         self.place, self.cause = place, cause

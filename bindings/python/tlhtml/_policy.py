@@ -35,7 +35,7 @@ class Policy(enum.IntEnum):
         """This policy with lists of one's own instead of those that it has: the tags and keys that may stand, the keys that hold
         links, what links begin with, the patterns of classes that may stand, and what stands in front of `id` and `name` and of links to
         them; whether links beside the page may stand too, and whether each is marked with `rel="nofollow noopener"`. A PolicyError says
-        which word no policy may list.
+        which word no policy can allow.
 
         >>> sanitize("<p>x<b>y", Policy.COMMENTS.lists(tags=["b"]))
         'x<b>y</b>'

@@ -5,18 +5,18 @@ use std::fmt;
 /// Why there is no answer.
 #[derive(Clone, Copy, Debug, PartialEq, Eq)]
 pub enum Error {
-    /// The text is no selector.
+    /// The text is an invalid selector.
     NoSelector {
         /// The first byte that is wrong.
         place: usize,
         /// What is wrong with it.
         cause: Cause,
     },
-    /// A label is that of no encoding.
+    /// A label is that of no known encoding.
     NoEncoding,
-    /// Lists are no policy: [`Lists::refused_word`](crate::Lists::refused_word) says of which word.
+    /// Lists are an invalid policy: [`Lists::refused_word`](crate::Lists::refused_word) says of which word.
     NoPolicy(Reason),
-    /// A tag or an element can't be changed so.
+    /// A tag or an element can't be edited this way.
     NotChanged {
         /// Where it begins in the page.
         place: usize,

@@ -228,7 +228,7 @@ fn refusal(status: u8, cause: u8, page: &str) -> Error {
 
 macro_rules! reasons {
     ($($(#[$doc:meta])* $name:ident = $number:literal, $words:literal;)*) => {
-        /// Why no policy may list a word. Each says too in which list the word stands.
+        /// Why no policy can allow a word. Each says too in which list the word stands.
         #[derive(Clone, Copy, Debug, PartialEq, Eq)]
         #[non_exhaustive]
         pub enum Reason {
