@@ -134,6 +134,3 @@ A terminal gets no control characters of a page: `?` stands for one, and U+00BF 
      /   p   >
   $ printf '<p>\033</p>' | tl set p id x | od -An -c
      <   p       i   d   =   "   x   "   > 033   <   /   p   >
-  $ printf '<x\033>a' >tag.html
-  $ python3 terminal.py 'tl sanitize --removed tag.html >said' | grep -c '<x?>'
-  1

@@ -280,14 +280,8 @@ pub fn unmade(rt: &HostRuntime, file: &str, text: &[u8], why: Unmade) -> Result<
 }
 
 // Says on standard error what is told beside a page.
-fn tell(rt: &HostRuntime, told: &[u8]) -> Result<(), AllocError> {
-    if rt.stderr().is_terminal() {
-        let shown = visible(rt.alloc(), told)?;
-        let _ = rt.stderr().write_all(&shown);
-    } else {
-        let _ = rt.stderr().write_all(told);
-    }
-    Ok(())
+fn tell(rt: &HostRuntime, told: &[u8]) {
+    let _ = rt.stderr().write_all(told);
 }
 
 // What comes of the text of a page.
@@ -309,7 +303,7 @@ fn process_text(
     let is_found = output.is_found;
     let written = page_output(rt, job, pages, file, output)?;
     pages.terminal.clear(rt);
-    tell(rt, &told)?;
+    tell(rt, &told);
     match write(rt, &written) {
         Ok(()) if is_found => Ok(Answer::Found),
         Ok(()) => Ok(Answer::Nothing),
