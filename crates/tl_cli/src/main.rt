@@ -10,6 +10,7 @@ mod args;
 mod caret;
 mod crossed;
 mod edit_words;
+mod examples;
 mod filename;
 mod in_place;
 mod in_place_words;
