@@ -75,8 +75,8 @@ pub fn kept_trees_that_are_fitted_stay()
         tokens_of (at data_state) (serialized false None (kept_fitted p trees) ++ rest)
         ≡ tokens_of_trees (kept_fitted p trees) ++ tokens_of (at data_state) rest }
     ensures built { (context : Context) (counts_search : Bool) (p : ListedWords)
-        (trees : HtmlForest) → is_flow_context context ≡ true →
-        lists_words p ≡ true → HaveOwnKeys trees →
+        (trees : HtmlForest) → is_flow_context context ≡ true → lists_words p ≡ true →
+        HaveOwnKeys trees →
         without_numbers (built_in context counts_search
         (serialized false None (kept_fitted p trees)))
         ≡ without_numbers (texts_joined (kept_fitted p trees)) }
