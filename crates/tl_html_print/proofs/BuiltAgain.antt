@@ -50,7 +50,7 @@ alike_below t = here (D.has_contents t)
     here true = refl
     here false = refl
 
-printed_alike : (trees : D.HtmlForest) (p q : Option Tag) → is_literal_in false p ≡ is_literal_in false q → serialized false p (without_numbers trees) ≡ serialized false q trees
+pub printed_alike : (trees : D.HtmlForest) (p q : Option Tag) → is_literal_in false p ≡ is_literal_in false q → serialized false p (without_numbers trees) ≡ serialized false q trees
 printed_alike D.no_trees p q e = refl
 printed_alike (D.text own more) p q e = ap₂ (λ (x y : List ℕ). x ++ y) (ap (λ v. if v then own.said else escaped false own.said) e) (printed_alike more p q e)
 printed_alike (D.comment own more) p q e = ap (λ x. codes "<!--" ++ (own.said ++ codes "-->") ++ x) (printed_alike more p q e)
@@ -60,7 +60,7 @@ printed_alike (D.element t below more) p q e =
     (printed_alike below (parent_below (unnumbered t)) (parent_below t) (alike_below t))
     (printed_alike more p q e)
 
-read_alike : (trees : D.HtmlForest) → tokens_of_trees (without_numbers trees) ≡ tokens_of_trees trees
+pub read_alike : (trees : D.HtmlForest) → tokens_of_trees (without_numbers trees) ≡ tokens_of_trees trees
 read_alike D.no_trees = refl
 read_alike (D.text own more) = ap (λ x. map Character own.said ++ x) (read_alike more)
 read_alike (D.comment own more) = ap (λ x. CommentToken own.said ∷ x) (read_alike more)
@@ -184,7 +184,7 @@ inside_same own children more names below low false false e k s =
 inside_same own children more names below low true false e k s = cc
 inside_same own children more names below low false true e k s = cc
 
-tokens_same : (names : List (List ℕ)) (f : HtmlForest) → AreLow f → stay names f ≡ true → tokens_of_trees (whole f) ≡ html_tokens_of f
+pub tokens_same : (names : List (List ℕ)) (f : HtmlForest) → AreLow f → stay names f ≡ true → tokens_of_trees (whole f) ≡ html_tokens_of f
 tokens_same names none l h = refl
 tokens_same names (text bytes more) l h =
     ap (λ x. map Character bytes ++ x) (tokens_same names more l (and_parts (list_all (may_be_read (is_flow (mode_of names))) bytes) (stay names more) h).1)

@@ -6,6 +6,7 @@ pub mod Readable
 pub mod ListedTokens
 pub mod OwnKeys
 pub mod Safe
+pub mod OpenPlaces
 pub mod Passes
 pub mod KindFacts
 pub mod LevelFacts

@@ -40,7 +40,7 @@ line-said : (source : ℕ) (cs : List ℕ) (more : HtmlForest) → S.begins_line
 line-said source [] more h = h
 line-said source (c ∷ cs) more h = refl
 
-line-same : (f : HtmlForest) → S.begins_line (partial f) ≡ begins_line f
+pub line-same : (f : HtmlForest) → S.begins_line (partial f) ≡ begins_line f
 line-same no_trees = refl
 line-same (text own more) = line-said own.source own.said more (line-same more)
 line-same (comment own more) = refl

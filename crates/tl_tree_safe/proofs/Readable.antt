@@ -177,7 +177,7 @@ markup names tag r e =
     markup_held tag (ap is_raw e ∙ standing_is_markup names tag.name (and_parts (may_stand names tag.name) _ p.0).0)
 
 -- what is in an element that may stand
-below_read : (n : List ℕ) (below : HtmlForest) (stays : Bool) → is_settled_inside n below stays ≡ true → (stays ≡ true → CanBeReadAgain below) → CanBeReadAgain below
+pub below_read : (n : List ℕ) (below : HtmlForest) (stays : Bool) → is_settled_inside n below stays ≡ true → (stays ≡ true → CanBeReadAgain below) → CanBeReadAgain below
 below_read n below stays h k = here (is_void n) (is_preformatted (group n) && begins_line below) h
   where
     nothing : (f : HtmlForest) → is_none f ≡ true → CanBeReadAgain f

@@ -24,10 +24,10 @@ use Rattle.tl_tree_safe.specs.Lists.{ListedWords, lists_words}
 use Rattle.tl_tree_safe.specs.OwnKeys.{HaveOwnKeys}
 use Rattle.tl_tree_safe.specs.Settled.{settled}
 
-own : (p : ListedWords) (trees : HtmlForest) → lists_words p ≡ true → HaveOwnKeys trees → AreOwn p (kept_fitted p trees)
+pub own : (p : ListedWords) (trees : HtmlForest) → lists_words p ≡ true → HaveOwnKeys trees → AreOwn p (kept_fitted p trees)
 own p trees l h = fitted-own p at_top (kept p trees) (kept-own p trees l h)
 
-stands : (p : ListedWords) (trees : HtmlForest) → settled at_top (kept_fitted p trees) ≡ true
+pub stands : (p : ListedWords) (trees : HtmlForest) → settled at_top (kept_fitted p trees) ≡ true
 stands p trees = fitted_settled at_top (kept p trees)
 
 pub read : (p : ListedWords) (trees : HtmlForest) (rest : List ℕ) → lists_words p ≡ true → HaveOwnKeys trees →

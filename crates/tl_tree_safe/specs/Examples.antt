@@ -1,13 +1,15 @@
 -- Words for worked rows. No contract cites them.
 use Prim.Native.String.{String}
-use Rattle.std.specs.Prelude.{List, None, Some, [], codes, false, true, ℕ, ◌∷◌}
+use Rattle.std.specs.Prelude.{Bool, List, None, Some, [], codes, false, true, ℕ, ◌∷◌}
 use Rattle.tl_dom_spec.specs.HtmlForest.{HtmlForest}
 use Rattle.tl_dom_spec.specs.HtmlTree.{html_fragment}
 use Rattle.tl_dom_spec.specs.Tags.{bare_tag}
 use Rattle.tl_html_print.specs.Serialized.{serialized}
+use Rattle.tl_html_spec.specs.Balanced.{words}
 use Rattle.tl_tree_safe.specs.Kept.{kept}
 use Rattle.tl_tree_safe.specs.KeptFitted.{kept_fitted}
 use Rattle.tl_tree_safe.specs.Lists.{ListedWords}
+use Rattle.tl_tree_safe.specs.OpenPlaces.{Around, is_open_place}
 use Rattle.tl_tree_safe.specs.Removed.{Gone, removed}
 use Rattle.tl_tree_safe.specs.declared.removal.Cause.{Cause}
 
@@ -66,3 +68,18 @@ tag_goes node cause = record { node = node; key = None; cause = cause }
 
 abbrev pub key_goes : ℕ → String → Cause → Gone
 key_goes node key cause = record { node = node; key = Some (codes key); cause = cause }
+
+-- whether a print may be put where elements of these names are open
+abbrev pub is_open_in : String → Bool
+is_open_in names = is_open_place (words (codes names))
+
+-- a place in trees
+abbrev pub around_it : String → String → String → Around
+around_it name before after = record {
+  tag = bare_tag (codes name);
+  before = trees_of before;
+  after = trees_of after;
+}
+
+abbrev pub some_place : List Around
+some_place = around_it "div" "a<br>" "b" ∷ around_it "section" "<h2>c</h2>" "" ∷ []

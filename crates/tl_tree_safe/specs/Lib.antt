@@ -11,6 +11,7 @@ pub mod Refusals
 pub mod OwnLists
 pub mod ListOptions
 pub mod Settled
+pub mod OpenPlaces
 pub mod Joined
 pub mod Listed
 pub mod OwnKeys

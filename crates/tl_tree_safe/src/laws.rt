@@ -1,10 +1,10 @@
 //! Laws of the definitions.
 
-ghost use Rattle.std.specs.Prelude.{Bool, List, None, false, length, nat_le, not, true, ℕ, ◌++◌, ◌∷◌, ◌≡◌, ◌≤◌, ◌||◌};
+ghost use Rattle.std.specs.Prelude.{Bool, List, None, false, length, map, nat_le, not, true, ℕ, ◌++◌, ◌∷◌, ◌≡◌, ◌≤◌, ◌||◌};
 ghost use Rattle.tl_dom_spec.specs.Builder.{Flags};
 ghost use Rattle.tl_dom_spec.specs.HtmlForest.{HtmlForest, element};
 ghost use Rattle.tl_dom_spec.specs.HtmlTree.{Context, html_fragment_by, html_tree_by};
-ghost use Rattle.tl_dom_spec.specs.Partial.{is_flow_context, without_numbers};
+ghost use Rattle.tl_dom_spec.specs.Partial.{is_flow_context, whole, without_numbers};
 ghost use Rattle.tl_dom_spec.specs.Tags.{Tag};
 ghost use Rattle.tl_html_print.specs.Again.{built_in};
 ghost use Rattle.tl_html_print.specs.ReadAgain.{tokens_of_trees};
@@ -20,9 +20,12 @@ ghost use Rattle.tl_tree_safe.specs.Joined.{texts_joined};
 ghost use Rattle.tl_tree_safe.specs.KeptFitted.{kept_fitted};
 ghost use Rattle.tl_tree_safe.specs.Listed.{are_listed};
 ghost use Rattle.tl_tree_safe.specs.Lists.{ListedWords, lists_words};
+ghost use Rattle.tl_tree_safe.specs.OpenPlaces.{AreAround, Around, back, front, is_open_place, names_in, put};
 ghost use Rattle.tl_tree_safe.specs.OwnKeys.{HaveOwnKeys};
 ghost use Rattle.tl_tree_safe.specs.Settled.{settled};
 ghost use Rattle.tl_tree_spec.specs.Groups.{group};
+ghost use Rattle.tl_tree_spec.specs.HtmlForest.{HtmlForest as PartialForest, HtmlTag};
+ghost use Rattle.tl_tree_spec.specs.Places.{Puts, placed};
 ghost use Rattle.tl_tree_spec.specs.Stays.{is_alone, may_stand};
 
 /// What stays of classes, if anything does, is classes that may stand, and stays as it is.
@@ -75,8 +78,8 @@ pub fn kept_trees_that_are_fitted_stay()
         tokens_of (at data_state) (serialized false None (kept_fitted p trees) ++ rest)
         ≡ tokens_of_trees (kept_fitted p trees) ++ tokens_of (at data_state) rest }
     ensures built { (context : Context) (counts_search : Bool) (p : ListedWords)
-        (trees : HtmlForest) → is_flow_context context ≡ true →
-        lists_words p ≡ true → HaveOwnKeys trees →
+        (trees : HtmlForest) → is_flow_context context ≡ true → lists_words p ≡ true →
+        HaveOwnKeys trees →
         without_numbers (built_in context counts_search
         (serialized false None (kept_fitted p trees)))
         ≡ without_numbers (texts_joined (kept_fitted p trees)) }
@@ -84,4 +87,34 @@ pub fn kept_trees_that_are_fitted_stay()
         lists_words p ≡ true → HaveOwnKeys trees →
         are_listed p (tokens_of (at data_state) (serialized false None (kept_fitted p trees)))
         ≡ true }
+{}
+
+/// Where elements are open whose names are an open place (`is_open_place`), such a print is read as
+/// these trees there, whether `search` is a special element or not.
+///
+/// `built`: put at an open place into markup that is settled and read as it is written
+/// (`AreAround`), in any context element of flow content: the whole tree construction builds that
+/// with these trees there. `text`: it is written as what stands before the place, the print, and
+/// what stands after it. `put`: in elements of any tags, with nothing in them yet, the tokens put
+/// exactly these trees into the innermost one and leave all around it as it is, by the tree
+/// construction of `tl_tree_spec`, which has the trees of the standard where it has an outcome.
+#[tactic(auto, using(crate::proofs::OpenPlaces::built, crate::proofs::OpenPlaces::text_put, crate::proofs::OpenPlaces::puts))]
+pub fn prints_go_where_they_are_put()
+    ensures built { (context : Context) (counts_search : Bool) (around : List Around)
+        (p : ListedWords) (trees : HtmlForest) → is_flow_context context ≡ true →
+        lists_words p ≡ true → HaveOwnKeys trees → AreAround around →
+        is_open_place (names_in around) ≡ true →
+        without_numbers (built_in context counts_search
+        (serialized false None (put around (kept_fitted p trees))))
+        ≡ without_numbers (texts_joined (put around (kept_fitted p trees))) }
+    ensures text { (around : List Around) (trees : HtmlForest) → AreAround around →
+        serialized false None (put around trees)
+        ≡ front around ++ (serialized false None trees ++ back around) }
+    ensures put { (counts_search : Bool) (tags : List HtmlTag) (p : ListedWords)
+        (trees : HtmlForest) (kept : PartialForest) →
+        lists_words p ≡ true → HaveOwnKeys trees →
+        is_open_place (map (λ own. own.name) tags ++ at_top) ≡ true →
+        without_numbers (texts_joined (kept_fitted p trees)) ≡ whole kept →
+        Puts (placed counts_search tags)
+        (tokens_of (at data_state) (serialized false None (kept_fitted p trees))) kept }
 {}
