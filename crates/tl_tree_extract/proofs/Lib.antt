@@ -14,4 +14,5 @@ pub mod Lengths
 pub mod Formed
 pub mod Marked
 pub mod Sinks
+pub mod Arrays
 pub mod Standing

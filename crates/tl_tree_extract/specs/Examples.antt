@@ -1,6 +1,6 @@
 -- Words for worked rows. No contract cites them.
 use Prim.Native.String.{String}
-use Rattle.std.specs.Prelude.{Bool, List, [], codes, flat_map, map, if◌then◌else◌, ℕ, ◌%◌, ◌+◌, ◌++◌, ◌/◌, ◌==◌, ◌∷◌}
+use Rattle.std.specs.Prelude.{Bool, List, Option, [], codes, flat_map, map, if◌then◌else◌, ℕ, ◌%◌, ◌+◌, ◌++◌, ◌/◌, ◌==◌, ◌∷◌}
 use Rattle.tl_dom_spec.specs.HtmlForest.{HtmlForest, element, no_trees}
 use Rattle.tl_dom_spec.specs.HtmlTree.{html_tree_by, standard}
 use Rattle.tl_dom_spec.specs.Tags.{html_tag}
@@ -11,11 +11,13 @@ use Rattle.tl_tree_extract.specs.NodeOutline.{node_outline}
 use Rattle.tl_tree_extract.specs.Outline.{outline_of}
 use Rattle.tl_tree_extract.specs.Readable.{readable_below, readable_rows}
 use Rattle.tl_tree_extract.specs.Sheet.{table_written}
+use Rattle.tl_tree_extract.specs.SheetJson.{table_line}
 use Rattle.tl_tree_extract.specs.Spans.{Part}
 use Rattle.tl_tree_extract.specs.Table.{Forming, place_cells}
 use Rattle.tl_tree_extract.specs.declared.column.Columns.{Columns}
 use Rattle.tl_tree_extract.specs.declared.column.Columns.TheVariants.{Tabs}
 use Rattle.tl_tree_extract.specs.declared.fields.Field.{Field}
+use Rattle.tl_tree_extract.specs.declared.sheet.Spans.{Spans}
 use Rattle.tl_tree_extract.specs.declared.sheet.Spans.TheVariants.{Filled}
 use Rattle.tl_tree_extract.specs.declared.tables.Cell.{Cell}
 use Rattle.tl_tree_extract.specs.declared.tables.TableRow.{TableRow}
@@ -85,6 +87,10 @@ page_rows page = rows_of (html_tree_by standard (codes page)).trees
 -- the cell that has it
 abbrev pub slots : String → List ℕ
 slots page = table_written Tabs Filled (page_rows page) 3
+
+-- the same table as a line of JSON
+abbrev pub table_json : Option (List ℕ) → Spans → String → List ℕ
+table_json file spans page = table_line file spans (page_rows page) 3
 
 -- the nodes of a page on lines, with their numbers or without
 abbrev pub nodes : Bool → String → List ℕ

@@ -18,5 +18,6 @@ pub mod Fields
 pub mod Resolved
 pub mod Table
 pub mod Sheet
+pub mod SheetJson
 pub mod Inner
 pub mod Examples

@@ -1,15 +1,19 @@
 //! Worked rows: numbers, URLs of values as `start:URL`, cells as `left-right,top-bottom`,
 //! lines with `/` for a line feed and `_` for a tab.
 
+ghost use Rattle.json.specs.Print.{print};
+ghost use Rattle.json.specs.Token.{begin_array, end_array};
 ghost use Rattle.std.specs.Prelude.{◌≡◌, ◌∷◌, [], None, Some, codes, false, true};
 ghost use Rattle.tl_dom_spec.specs.HtmlForest.{no_trees};
-ghost use Rattle.tl_tree_extract.specs.Examples.{a_cell, nodes, outline, page_rows, record_of, shown, slots, two_rows, urls};
+ghost use Rattle.tl_tree_extract.specs.Examples.{a_cell, nodes, outline, page_rows, record_of, shown, slots, table_json, two_rows, urls};
 ghost use Rattle.tl_tree_extract.specs.Fields.{value_written};
 ghost use Rattle.tl_tree_extract.specs.Marks.{comments_below, comments_of, marks_of};
 ghost use Rattle.tl_tree_extract.specs.NodeOutline.{has_line};
 ghost use Rattle.tl_tree_extract.specs.Numbers.{non_negative};
+ghost use Rattle.tl_tree_extract.specs.SheetJson.{with_file};
 ghost use Rattle.tl_tree_extract.specs.declared.column.Columns.TheVariants.{Commas, Tabs};
 ghost use Rattle.tl_tree_extract.specs.declared.fields.Field.TheVariants.{Name, Text};
+ghost use Rattle.tl_tree_extract.specs.declared.sheet.Spans.TheVariants.{Filled};
 ghost use Rattle.tl_tree_extract.specs.declared.url_keys.UrlKind.TheVariants.{Candidates, Refresh, Whole, Words};
 
 /// What the rules for parsing non-negative integers make of bytes.
@@ -62,6 +66,14 @@ pub fn slots_of_tables()
     ensures foot { slots "<table><tfoot><tr><td>a<tbody><tr><td>b" ≡ shown "b/a/" }
     ensures no_number { slots "<table><tr><td colspan=x>a<td colspan=0>b" ≡ shown "a_b/" }
     ensures no_row { slots "<table>" ≡ shown "" }
+{}
+
+/// Tables as lines of JSON.
+#[tactic(auto, unfolding(crate::specs::Table::row_names, crate::specs::Table::cell_names, crate::specs::Table::body_names, crate::specs::Table::foot_names, crate::specs::Table::body_or_row_names, crate::specs::Table::column_group_names, crate::specs::Table::column_names, json::specs::Print::print_from, json::specs::Print::escape_byte))]
+pub fn tables_as_json()
+    ensures no_row { table_json None Filled "<table>" ≡ codes "[]\n" }
+    ensures file { print (with_file (Some (codes "x")) (begin_array ∷ end_array ∷ []))
+        ≡ codes "{\"file\":\"x\",\"rows\":[]}" }
 {}
 
 /// Columns of column groups, which may have no cells.

@@ -190,6 +190,7 @@ fn text_of(name: KnownKey) -> &'static [u8]
         KnownKey::Namespace => b"\"namespace\":",
         KnownKey::Node => b"\"node\":",
         KnownKey::Public => b"\"public\":",
+        KnownKey::Rows => b"\"rows\":",
         KnownKey::Start => b"\"start\":",
         KnownKey::System => b"\"system\":",
         KnownKey::Text => b"\"text\":",

@@ -9,6 +9,7 @@ ghost use Rattle.tl_tree_extract.specs.declared.table_error.TableError.TheVarian
 
 use crate::cell_words::CellWords;
 use crate::column::{Columns, put_first_value, put_separator, put_value};
+use crate::limit::Limit;
 use crate::row_slots::RowSlots;
 use crate::table_error::TableError;
 use crate::tables::{Cell, Table, table_within};
@@ -29,21 +30,7 @@ pub enum Spans {
 struct Format {
     columns: Columns,
     spans: Spans,
-    start: usize,
-    limit: usize,
-}
-
-impl Format {
-    // Refuses what ends behind the last byte that may be written.
-    fn check(self, end: usize) -> Result<(), TableError>
-        ensures within { OnOk result (end ≤ self.start + self.limit) }
-        ensures long { result ≡ Err TooLong → self.start + self.limit < end }
-    {
-        if end.saturating_sub(self.start) > self.limit {
-            return Err(TableError::TooLong);
-        }
-        Ok(())
-    }
+    limit: Limit,
 }
 
 // Whether a cell has its words in a slot.
@@ -79,8 +66,8 @@ fn take_words(
     }
 }
 
-// Takes the words that a slot of a row has for the line.
-fn take_slot(
+/// Takes the words that a slot of a row has for the line.
+pub(crate) fn take_slot(
     tree: &Tree<'_>,
     spans: Spans,
     table: &Table,
@@ -114,15 +101,15 @@ fn put_more(
     ensures kept { OnOk result (AreKept (rows_in tree.now) words.new) }
     ensures written { OnOk result (out.new.items ≡ out.old.items ++ more_slots format.columns
         format.spans (rows_in tree.now) (table_said table.now) row (table.now.width - 1)) }
-    ensures long { result ≡ Err TooLong → format.start + format.limit < length (out.old.items
-        ++ more_slots format.columns format.spans (rows_in tree.now) (table_said table.now) row
-        (table.now.width - 1)) }
+    ensures long { result ≡ Err TooLong → format.limit.start + format.limit.most
+        < length (out.old.items ++ more_slots format.columns format.spans (rows_in tree.now)
+        (table_said table.now) row (table.now.width - 1)) }
 {
     for last in 0..table.width.saturating_sub(1) as usize {
         take_slot(tree, format.spans, table, slots, last + 1, row, words)?;
         put_separator(format.columns, out)?;
         put_value(format.columns, words.line.as_slice(), out)?;
-        format.check(out.len())?;
+        format.limit.check(out.len())?;
     }
     Ok(())
 }
@@ -142,16 +129,17 @@ fn put_row(
     ensures kept { OnOk result (AreKept (rows_in tree.now) words.new) }
     ensures written { OnOk result (out.new.items ≡ out.old.items ++ row_written format.columns
         format.spans (rows_in tree.now) (table_said table.now) row) }
-    ensures within { OnOk result (length out.new.items ≤ format.start + format.limit) }
-    ensures long { result ≡ Err TooLong → format.start + format.limit < length (out.old.items
-        ++ row_written format.columns format.spans (rows_in tree.now) (table_said table.now) row) }
+    ensures within { OnOk result (length out.new.items ≤ format.limit.start + format.limit.most) }
+    ensures long { result ≡ Err TooLong → format.limit.start + format.limit.most
+        < length (out.old.items ++ row_written format.columns format.spans (rows_in tree.now)
+        (table_said table.now) row) }
 {
     let others = table.width.saturating_sub(1) as usize;
     take_slot(tree, format.spans, table, slots, 0, row, words)?;
     put_first_value(format.columns, others, words.line.as_slice(), out)?;
     put_more(tree, format, table, slots, row, words, out)?;
     out.push(b'\n')?;
-    format.check(out.len())
+    format.limit.check(out.len())
 }
 
 // Writes the rows of a table.
@@ -163,12 +151,13 @@ fn put_rows(
     out: &mut Vec<u8>,
 ) -> Result<(), TableError>
     requires rising { AreRising 0 (length table.now.rows.items) table.now.cells.items }
-    requires start { format.start ≡ length out.old.items }
+    requires start { format.limit.start ≡ length out.old.items }
     ensures written { OnOk result (out.new.items ≡ out.old.items ++ rows_written format.columns
         format.spans (rows_in tree.now) (table_said table.now) (length table.now.rows.items)) }
     ensures within { OnOk result (length (rows_written format.columns format.spans
-        (rows_in tree.now) (table_said table.now) (length table.now.rows.items)) ≤ format.limit) }
-    ensures long { result ≡ Err TooLong → format.limit < length (rows_written format.columns
+        (rows_in tree.now) (table_said table.now) (length table.now.rows.items))
+        ≤ format.limit.most) }
+    ensures long { result ≡ Err TooLong → format.limit.most < length (rows_written format.columns
         format.spans (rows_in tree.now) (table_said table.now) (length table.now.rows.items)) }
 {
     let mut words = CellWords::new(alloc);
@@ -206,8 +195,10 @@ pub fn write_table(
     let format = Format {
         columns,
         spans,
-        start: out.len(),
-        limit,
+        limit: Limit {
+            start: out.len(),
+            most: limit,
+        },
     };
     put_rows(alloc, tree, format, &table, out)
 }

@@ -2,9 +2,9 @@
 use Rattle.json.specs.Print.{print_from}
 use Rattle.json.specs.Token.{Token, begin_array, begin_object, end_array, end_object, key, null, string}
 use Rattle.json.specs.Written.{Written}
-use Rattle.std.specs.Prelude.{Bool, List, [], codes, cond, false, true, ℕ, ◌&&◌, ◌++◌, ◌∷◌}
+use Rattle.std.specs.Prelude.{Bool, List, [], codes, cond, false, length, true, ℕ, ◌&&◌, ◌++◌, ◌<◌, ◌∷◌}
 use Rattle.tl_tree_extract.specs.declared.json_sink.KnownKey.{KnownKey}
-use Rattle.tl_tree_extract.specs.declared.json_sink.KnownKey.TheVariants.{Attributes, Children, Comment, Contents, Doctype, End, File, Name, Namespace, Node, Public, Start, System, Text}
+use Rattle.tl_tree_extract.specs.declared.json_sink.KnownKey.TheVariants.{Attributes, Children, Comment, Contents, Doctype, End, File, Name, Namespace, Node, Public, Rows, Start, System, Text}
 use Rattle.tl_tree_extract.specs.declared.json_sink.Mark.{Mark}
 use Rattle.tl_tree_extract.specs.declared.json_sink.Mark.TheVariants.{BeginArray, BeginObject, EndArray, EndObject, Null}
 
@@ -27,6 +27,7 @@ known_key Name = codes "name"
 known_key Namespace = codes "namespace"
 known_key Node = codes "node"
 known_key Public = codes "public"
+known_key Rows = codes "rows"
 known_key Start = codes "start"
 known_key System = codes "system"
 known_key Text = codes "text"
@@ -47,6 +48,10 @@ written_taken w more = (w.before, w.tokens ++ more)
 -- of a text
 abbrev pub text_taken : List ℕ → Bool → List Token → List ℕ × List Token
 text_taken out after_value more = (out ++ print_from after_value more, [])
+
+-- there are more bytes than so many
+abbrev pub IsOver : ℕ → (List Token → List ℕ × List Token) → Type 0
+IsOver most taken = most < length (taken []).0
 
 -- between the end of a value and what begins
 abbrev pub comma : Bool → Bool → List ℕ

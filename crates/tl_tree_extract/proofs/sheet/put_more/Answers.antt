@@ -25,5 +25,5 @@ returns-in_err-check-clause-long c = λ h.
     c.in_ok-put_value.ensures (c.as_slice.ensures.value ∙ c.in_ok-take_slot.ensures.line) c.in_ok-put_separator.ensures c.loop-last.invariant.out in
     let le : n + 1 ≤ c.args.table.now.width - 1 = omega (arith, c.loop-last-test.true) in
     let told = c.in_err-check.ensures.long (search (rules, h)) in
-    let over : c.args.format.start + c.args.format.limit < length put = omega (arith, told, c.len.ensures) in
-    slots_over columns spans rows t c.args.row (n + 1) (c.args.table.now.width - 1) (c.args.format.start + c.args.format.limit) old put le written over
+    let over : c.args.format.limit.start + c.args.format.limit.most < length put = omega (arith, told, c.len.ensures) in
+    slots_over columns spans rows t c.args.row (n + 1) (c.args.table.now.width - 1) (c.args.format.limit.start + c.args.format.limit.most) old put le written over

@@ -27,8 +27,8 @@ loop-row-preserved c =
       kept = c.in_ok-put_row.ensures.kept;
       before = next_row t n (n + 1) c.go_to.new.self refl c.in_ok-go_to.ensures;
       out = written;
-      within = rows_within columns spans rows t (n + 1) c.args.format.limit old c.put_row.new.out.items written
-          (subst (λ (k : ℕ). length c.put_row.new.out.items ≤ k + c.args.format.limit) c.requires.start c.in_ok-put_row.ensures.within);
+      within = rows_within columns spans rows t (n + 1) c.args.format.limit.most old c.put_row.new.out.items written
+          (subst (λ (k : ℕ). length c.put_row.new.out.items ≤ k + c.args.format.limit.most) c.requires.start c.in_ok-put_row.ensures.within);
     }
 
 pub returns-in_err-put_row-clause-long : goal.returns-in_err-put_row-clause-long
@@ -38,7 +38,7 @@ returns-in_err-put_row-clause-long c = λ h.
     let spans = c.args.format.spans in
     let rows = rows_in c.args.tree.now in
     let t = table_said c.args.table.now in
-    let limit : ℕ = c.args.format.limit in
+    let limit : ℕ = c.args.format.limit.most in
     let said = c.loop-row.out.items in
     let within : n < length c.args.table.now.rows.items = omega (arith, c.loop-row-test.true, c.len-row-end.ensures) in
     let told = c.in_err-put_row.ensures.long (search (rules, h)) in

@@ -13,5 +13,5 @@ invariant-loop-row l =
       kept : AreKept (rows_in l.tree) l.words;
       before : IsBeforeRow (table_said l.table) l.row l.slots;
       out : l.out.items ≡ l.fn.out.items ++ written;
-      within : length written ≤ l.format.limit;
+      within : length written ≤ l.format.limit.most;
     }
