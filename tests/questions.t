@@ -363,8 +363,8 @@ Values of nodes in columns, of several keys, or of keys and the text.
   ...
   [2]
   $ tl select -a href -a class a rows rows | head -2
-  rows:1\x09b c (esc)
-  rows:2,3\x09 (esc)
+  rows\x091\x09b c (esc)
+  rows\x092,3\x09 (esc)
 
 Where nodes begin. Of one that browsers put in it is where the next one does; columns are characters.
 

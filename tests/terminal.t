@@ -124,7 +124,7 @@ What is said of a page takes its place, whatever that is.
 A terminal gets no control characters of a page: `?` stands for one, and U+00BF for one from U+0080 to U+009F. What is no terminal gets them.
 
   $ printf '<p>a\033[31m\302\233c\010&#13;d' >control.html
-  $ python3 terminal.py 'tl select -t p control.html' | od -An -c
+  $ python3 terminal.py 'tl select -t p control.html 2>said' | od -An -c
      a   ?   [   3   1   m 302 277   c   ?   ?   d  \r  \n
   $ tl select -t p control.html | od -An -c
      a 033   [   3   1   m 302 233   c  \b  \r   d  \n

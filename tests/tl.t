@@ -333,12 +333,12 @@ Tables as CSV.
   tl: invalid number of a table: x (the first is 1) (err)
   [2]
   $ tl table table page table
-  table:a,"b, c",
-  table:1,d e & f,d e & f
-  table:"""x""",,
-  table:a,"b, c",
-  table:1,d e & f,d e & f
-  table:"""x""",,
+  table,a,"b, c",
+  table,1,d e & f,d e & f
+  table,"""x""",,
+  table,a,"b, c",
+  table,1,d e & f,d e & f
+  table,"""x""",,
 
 The text inside of nodes.
 
