@@ -82,7 +82,7 @@ class Document:
         >>> Document(b"<meta charset=koi8-r><p>\\xcd\\xc9\\xd2").select_one("p").text
         'мир'
         """
-        lent = page_bytes(page, encoding)
+        lent, self._encoding = page_bytes(page, encoding)
         self._handle, self._lock = Handle(), threading.RLock()
         self._page = lent
         self._lines: list[int] | None = None
@@ -273,6 +273,15 @@ class Document:
         if document._rows() != self._rows():
             raise ValueError("with these values the page has another tree: change elements by a call of their own")
         return document
+
+    @property
+    def encoding(self) -> str | None:
+        """The encoding that the bytes of the page were in, by its name in the Encoding standard; None where the page was a str.
+
+        >>> Document(b"<meta charset=latin1><p>caf\\xe9").encoding
+        'windows-1252'
+        """
+        return self._encoding
 
     @property
     def is_quirks(self) -> bool:
