@@ -234,10 +234,10 @@ def main_crawl(folder):
     os.environ["PYTHONPATH"] = os.pathsep.join(filter(None, [examples, os.environ.get("PYTHONPATH")]))
     sys.path.insert(0, examples)
     import crawl
-    from distributed import Client, LocalCluster
+    from distributed import Client
 
     found = crawl.sources(folder)
-    with LocalCluster(n_workers=2, threads_per_worker=1, dashboard_address=None) as cluster, Client(cluster) as client:
+    with crawl.processes_here(2) as cluster, Client(cluster) as client:
         for whose, modules, ask in [("tlhtml", (), crawl.asked), ("lxml", ("lxml",), crawl_lxml), ("BeautifulSoup, lxml", ("bs4", "lxml"), crawl_soup)]:
             if all(map(importlib.util.find_spec, modules)):
                 before = sum(client.run(time.process_time).values())
