@@ -451,6 +451,8 @@ class Node:
     """
 
     __slots__ = ("document", "number")
+    # (it isn't gone through by itself: there are its attributes, its children, and all below it)
+    __iter__ = None
 
     def __init__(self, document: Document, number: int) -> None:
         self.document, self.number = document, number

@@ -83,6 +83,7 @@ impl Document {
     /// let document = tlhtml::Document::parse_bytes(b"<meta charset=latin1><p>caf\xe9", None)?;
     /// assert_eq!(document.text().collect::<String>(), "café");
     /// assert_eq!(document.encoding(), Some("windows-1252"));
+    /// assert_eq!(tlhtml::Document::parse("x")?.encoding(), None);
     /// # Ok::<(), tlhtml::Error>(())
     /// ```
     pub fn parse_bytes(page: &[u8], encoding: Option<&str>) -> Result<Document, Error> {
