@@ -723,6 +723,49 @@ static inline tl_status tl_node_copy(tl_node_bytes *call, tl_document *document,
     return status;
 }
 
+/* The matching elements, to be gone through one by one. */
+typedef struct {
+    uint32_t *numbers;
+    size_t count, at;
+} tl_selection;
+
+/* Asks for the elements that match a compiled selector, in the whole document, or below a node where that isn't TL_NO_NODE. Their numbers
+ * stand in one block of an allocator of one's own, `numbers`, or NULL where there is none. The block is the caller's, also where memory ran
+ * out while it was filled; then there is no element to go through. More than 64 elements are asked for twice, first to see how many.
+ *
+ *     if (tl_selection_of(&document, TL_NO_NODE, &links, of_heap, NULL, &selection) == TL_DONE)
+ *         while (tl_next_selected(&selection, &node)) ..
+ *     free(selection.numbers); */
+static inline tl_status tl_selection_of(tl_document *document, uint32_t node, tl_compiled *compiled, tl_allocate *allocate,
+                                        void *context, tl_selection *selection) {
+    uint32_t few[64], *numbers = few;
+    size_t room = 64, count = 0;
+    const tl_selection none = {NULL, 0, 0};
+    *selection = none;
+    for (int turn = 0; turn < 2; turn++) {
+        tl_status status = node == TL_NO_NODE ? tl_compiled_select(document, compiled, numbers, room, &count)
+                                              : tl_compiled_select_below(document, node, compiled, numbers, room, &count);
+        if (status != TL_DONE && (status != TL_NO_ROOM || turn == 1)) return status;
+        if (turn == 1 || count == 0) break;
+        selection->numbers = (uint32_t *)allocate(context, count * sizeof *numbers);
+        if (selection->numbers == NULL) return TL_OUT_OF_MEMORY;
+        if (status == TL_DONE) {
+            for (size_t at = 0; at < count; at++) selection->numbers[at] = few[at];
+            break;
+        }
+        numbers = selection->numbers, room = count;
+    }
+    selection->count = count;
+    return TL_DONE;
+}
+
+/* The next of them, in document order; false at the end. */
+static inline bool tl_next_selected(tl_selection *selection, uint32_t *node) {
+    if (selection->at == selection->count) return false;
+    *node = selection->numbers[selection->at++];
+    return true;
+}
+
 /* The line of a place of the page, from 1, and into `*column` how many bytes stand before it there. */
 static inline size_t tl_line_at(const uint8_t *page, size_t place, size_t *column) {
     size_t line = 1;

@@ -120,7 +120,7 @@ def python_for_wheels():
 
 
 def make_wheel(packed, version, to, when=None):
-    """Makes the wheel of a folder of a release, with the shared library inside, and returns its path."""
+    """Makes the wheel of a folder of a release, of an sdist and with the shared library inside, and returns its path."""
     python = python_for_wheels()
     if not python:
         raise Stop("no wheel: there is no Python with pip, setuptools and wheel")
@@ -129,8 +129,9 @@ def make_wheel(packed, version, to, when=None):
         shutil.copytree(f"{ROOT}/bindings/python", package, ignore=shutil.ignore_patterns("__pycache__", "build", "*.egg-info"))
         env = {**os.environ, "TLHTML_LIBRARY": f"{packed}/lib/libtl.so", "TL_VERSION": version, "PYTHONPATH": package}
         env |= {"SOURCE_DATE_EPOCH": str(when)} if when else {}
+        must([python, "setup.py", "-q", "sdist", "-d", f"{room}/sdist"], "no sdist", env=env, cwd=package)
         words = [python, "-m", "pip", "wheel", "-q", "--no-deps", "--no-build-isolation", "--no-index", "-w", to]
-        must([*words, package], "no wheel", env=env)
+        must([*words, *glob.glob(f"{room}/sdist/*.tar.gz")], "no wheel", env=env)
     return glob.glob(f"{to}/tlhtml-{version}-*.whl")[0]
 
 

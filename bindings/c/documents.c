@@ -547,6 +547,41 @@ static void of_copies(void) {
     tl_free(&document);
 }
 
+/* How many elements a selector finds by a block of so many bytes at most, where each is one behind the last; -1 where memory runs out. */
+static long selected(tl_document *document, uint32_t node, const char *selector, size_t bytes, uint32_t first, uint32_t step) {
+    tl_compiled compiled = TL_NO_COMPILED;
+    tl_selection selection;
+    uint32_t number;
+    long count = 0;
+    size_t place;
+    uint8_t cause;
+    CHECK(tl_compile_css((const uint8_t *)selector, strlen(selector), &compiled, &place, &cause) == TL_DONE);
+    left_there = bytes;
+    tl_status status = tl_selection_of(document, node, &compiled, of_own, &taken, &selection);
+    for (; tl_next_selected(&selection, &number); count++) CHECK(number == first + step * (uint32_t)count);
+    CHECK(status == TL_DONE || (count == 0 && selection.count == 0));
+    free(selection.numbers);
+    tl_free_compiled(&compiled);
+    return status == TL_DONE ? count : status == TL_OUT_OF_MEMORY ? -1 : -2;
+}
+
+static void of_selections(void) {
+    static char many[4 * 100 + 1];
+    tl_document document = TL_NO_DOCUMENT;
+    for (size_t at = 0; at < 100; at++) memcpy(many + 4 * at, "<p>x", 4);
+    taken = 0;
+    CHECK(selected(&document, TL_NO_NODE, "p", 4096, 0, 0) == -2 && taken == 0);
+    CHECK(tl_parse_html(BYTES(many), &document) == TL_DONE);
+    CHECK(selected(&document, TL_NO_NODE, "p", 4096, 3, 2) == 100 && taken == 1);
+    CHECK(selected(&document, TL_NO_NODE, "p", 100 * 4 - 1, 3, 2) == -1 && taken == 2);
+    CHECK(selected(&document, TL_NO_NODE, "p + p + p", 4096, 7, 2) == 98 && taken == 3);
+    CHECK(selected(&document, TL_NO_NODE, "p:nth-child(-n+64)", 64 * 4, 3, 2) == 64 && taken == 4);
+    CHECK(selected(&document, 2, "> p:last-child", 4, 201, 0) == 1 && taken == 5);
+    CHECK(selected(&document, 3, "p", 0, 0, 0) == 0 && taken == 5);
+    CHECK(selected(&document, 9999, "p", 0, 0, 0) == -2 && taken == 5);
+    tl_free(&document);
+}
+
 /* Where links lead, and what stands in the header alone. */
 static void of_no_document(void) {
     size_t column;
@@ -666,6 +701,10 @@ static void out_of_proportion(void) {
     for (long number = 0;; number++) { \
         REFUSES(number, (call), CHECK(left(status, TL_OUT_OF_MEMORY, 0))); \
     }
+#define RUNS_OUT_ONE(call, unchanged) \
+    for (long number = 0;; number++) { \
+        REFUSES(number, (call), CHECK(unchanged)); \
+    }
 /* The same of a selector, of whose place and cause nothing is told then, and of one number, which is that of none. */
 #define RUNS_OUT_OF(call, unchanged) \
     for (long number = 0;; number++) { \
@@ -673,6 +712,27 @@ static void out_of_proportion(void) {
         uint8_t cause = 99; \
         REFUSES(number, (call), CHECK(unchanged); CHECK(place == 0 && cause == TL_NO_CAUSE)); \
     }
+
+/* A copy for which the allocator or the library is refused memory, so short that it is made at once, and so long that it is made twice. */
+static void copies_refused(void) {
+    static char long_page[1024];
+    tl_document document = TL_NO_DOCUMENT;
+    uint8_t *text;
+    size_t len;
+    memset(long_page, 'x', sizeof long_page);
+    memcpy(long_page, "<i><p>", 6);
+    left_there = sizeof long_page + 64;
+    CHECK(tl_parse_html((const uint8_t *)long_page, sizeof long_page, &document) == TL_DONE);
+    RUNS_OUT_ONE(tl_node_copy(tl_node_name, &document, 3, of_own, NULL, &text, &len), text == NULL && len == 0);
+    CHECK(len == 1 && strcmp((char *)text, "i") == 0);
+    free(text);
+    for (long number = 0;; number++) {
+        REFUSES(number, tl_node_copy(tl_node_outer_html, &document, 3, of_own, NULL, &text, &len), free(text));
+    }
+    CHECK(len == sizeof long_page + 8 && memcmp(text, long_page, sizeof long_page) == 0 && strcmp((char *)text + len - 8, "</p></i>") == 0);
+    free(text);
+    tl_free(&document);
+}
 
 /* What takes no memory is answered though the first request would be refused. */
 static void without_memory(tl_document *document) {
@@ -756,16 +816,18 @@ static void refusals(void) {
     CHECK(found(TL_DONE, (const uint32_t[]){4, 6}, 2));
     RUNS_OUT(tl_compiled_select_below(&document, 3, &links, NUMBERS));
     CHECK(found(TL_DONE, (const uint32_t[]){4, 6}, 2));
-#define RUNS_OUT_ONE(call, unchanged) \
-    for (long number = 0;; number++) { \
-        REFUSES(number, (call), CHECK(unchanged)); \
-    }
     RUNS_OUT_ONE(tl_compiled_first(&document, &links, &one), one == TL_NO_NODE);
     RUNS_OUT_ONE(tl_compiled_first_below(&document, 3, &links, &one), one == TL_NO_NODE);
     RUNS_OUT_ONE(tl_compiled_matches(&document, 6, &links, &is_met), is_met == 0);
     RUNS_OUT_ONE(tl_compiled_closest(&document, 7, &links, &one), one == TL_NO_NODE);
     CHECK(one == 6 && is_met == 1);
+    tl_selection selection;
+    left_there = 64;
+    RUNS_OUT_ONE(tl_selection_of(&document, 3, &links, of_own, NULL, &selection), selection.numbers == NULL && selection.count == 0);
+    CHECK(selection.count == 2 && selection.numbers[0] == 4 && selection.numbers[1] == 6);
+    free(selection.numbers);
     tl_free_compiled(&links);
+    copies_refused();
     without_memory(&document);
 }
 
@@ -783,6 +845,7 @@ int main(void) {
         of_edits();
         of_compiled();
         of_copies();
+        of_selections();
     }
     out_of_proportion();
     refusals();

@@ -47,6 +47,24 @@ def tlhtml_strings(page):
         return list(document.strings)
 
 
+def tlhtml_kinds(page):
+    with tlhtml.Document(page) as document:
+        return [it.kind for it in document.nodes]
+
+
+def lxml_kinds(page):
+    import lxml.html
+
+    kinds = []
+    for it in lxml.html.fromstring(page).iter():
+        kinds.append("comment" if it.tag is lxml.etree.Comment else "element")
+        if it.text is not None and kinds[-1] == "element":
+            kinds.append("text")
+        if it.tail is not None:
+            kinds.append("text")
+    return kinds
+
+
 def lxml_names(page):
     import lxml.html
 
@@ -126,6 +144,7 @@ ALL = [
     ("text", tlhtml_text, lxml_text),
     ("texts, one by one", tlhtml_strings, lxml_strings),
     ("text of each paragraph", tlhtml_paragraphs, lxml_paragraphs),
+    ("kinds of all nodes", tlhtml_kinds, lxml_kinds),
     ("names of all elements", tlhtml_names, lxml_names),
     ("attributes of all elements", tlhtml_attributes, lxml_attributes),
 ]
@@ -215,10 +234,10 @@ def main_crawl(folder):
     os.environ["PYTHONPATH"] = os.pathsep.join(filter(None, [examples, os.environ.get("PYTHONPATH")]))
     sys.path.insert(0, examples)
     import crawl
-    from distributed import Client, LocalCluster
+    from distributed import Client
 
     found = crawl.sources(folder)
-    with LocalCluster(n_workers=2, threads_per_worker=1, dashboard_address=None) as cluster, Client(cluster) as client:
+    with crawl.processes_here(2) as cluster, Client(cluster) as client:
         for whose, modules, ask in [("tlhtml", (), crawl.asked), ("lxml", ("lxml",), crawl_lxml), ("BeautifulSoup, lxml", ("bs4", "lxml"), crawl_soup)]:
             if all(map(importlib.util.find_spec, modules)):
                 before = sum(client.run(time.process_time).values())

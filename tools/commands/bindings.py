@@ -129,6 +129,9 @@ class Callers:
         must(["cargo", "test", "--test", "refusals", *how], "the crate for Rust failed", env={**os.environ, **env, **refusing})
         env["RUSTDOCFLAGS"] = "-D warnings"
         must(["cargo", "doc", "--no-deps", *how], "the crate for Rust isn't documented", env={**os.environ, **env})
+        if shutil.which("cargo-clippy"):
+            words = ["cargo", "clippy", "--all-targets", *how, "--", "-D", "warnings"]
+            must(words, "the crate for Rust has warnings", env={**os.environ, **env})
         return None
 
     def of_installed(self):

@@ -4,7 +4,9 @@ use crate::stop::{Stop, value};
 use crate::{Named, measured};
 use std::alloc::Global;
 use tl::ParserOptions;
-use tl_encoding::{Encoding, SingleByte, decode};
+use tl_encoding::{
+    EncodeError, Encoding, SingleByte, decode, encode, with_marks, with_references, without_marks,
+};
 use tl_html_parts::{characters, comment, lower_name, tag_parts};
 use tl_html_print::{write_document, write_pretty};
 use tl_html_tokens::{Mode, tokens};
@@ -31,6 +33,10 @@ enum PageCall {
     Pretty,
     Lines,
     Decode(Encoding),
+    Encode(Encoding),
+    References(Encoding),
+    WithMarks,
+    WithoutMarks,
 }
 
 // The name of a call, the call, the bytes, and what is made; of a tag its name, of tokens the last
@@ -38,7 +44,7 @@ enum PageCall {
 type Row = (&'static str, PageCall, &'static [u8], &'static [u8]);
 
 #[rattlefmt::skip]
-static ROWS: [Row; 22] = [
+static ROWS: [Row; 28] = [
     ("read of a page", PageCall::Read, b"<p id=i class=k>x &lt;", b"x &lt;"),
     ("unescape_text", PageCall::UnescapeText, b"a&lt;b", b"a<b"),
     ("unescape_value", PageCall::UnescapeValue, b"?a&lt=1&quot;", b"?a&lt=1\""),
@@ -61,6 +67,12 @@ static ROWS: [Row; 22] = [
     ("decode, windows-1252", PageCall::Decode(Encoding::SingleByte(SingleByte::Windows1252)), b"caf\xE9 \x80", b"caf\xC3\xA9 \xE2\x82\xAC"),
     ("write_pretty", PageCall::Pretty, b"<!DOCTYPE html><div> <p>b <i>c</i></p><pre>d</pre></div>", b"<!DOCTYPE html>\n<html>\n  <head></head>\n  <body>\n    <div>\n      <p>b <i>c</i></p>\n      <pre>d</pre>\n    </div>\n  </body>\n</html>\n"),
     ("LineIndex::new", PageCall::Lines, b"a\nb\xC3\xA9", b"\x02\x03"),
+    ("encode, windows-1252", PageCall::Encode(Encoding::SingleByte(SingleByte::Windows1252)), b"caf\xC3\xA9 \xE2\x82\xAC", b"caf\xE9 \x80"),
+    ("encode, a character that the encoding lacks", PageCall::Encode(Encoding::SingleByte(SingleByte::Windows1252)), b"caf\xE4\xB8\x80", b""),
+    ("with_references", PageCall::References(Encoding::SingleByte(SingleByte::Windows1252)), b"caf\xE4\xB8\x80", b"caf&#19968;"),
+    ("with_marks", PageCall::WithMarks, b"caf\xE9", b"caf\xF4\x8F\xBF\xA9"),
+    ("with_marks, a page that has marks", PageCall::WithMarks, b"caf\xF4\x8F\xBF\xA9", b""),
+    ("without_marks", PageCall::WithoutMarks, b"caf\xF4\x8F\xBF\xA9", b"caf\xE9"),
 ];
 
 /// A call that reads or writes bytes of a page, if there is one of this number.
@@ -102,7 +114,42 @@ fn made(alloc: Global, call: PageCall, bytes: &[u8]) -> Result<Vec<u8>, Stop> {
         PageCall::Print => print(alloc, bytes),
         PageCall::Pretty => pretty(alloc, bytes),
         PageCall::Lines => lines(alloc, bytes),
+        PageCall::Encode(_)
+        | PageCall::References(_)
+        | PageCall::WithMarks
+        | PageCall::WithoutMarks => coded(alloc, call, bytes),
         _ => Err(Stop::WrongValue),
+    }
+}
+
+fn coded(alloc: Global, call: PageCall, bytes: &[u8]) -> Result<Vec<u8>, Stop> {
+    let text = str::from_utf8(bytes).unwrap_or("");
+    match call {
+        PageCall::Encode(encoding) => bytes_or_none(alloc, encode(alloc, encoding, text)),
+        PageCall::References(encoding) => {
+            Ok(with_references(alloc, encoding, text)?.into_bytes())
+        }
+        PageCall::WithMarks => match with_marks(alloc, bytes)? {
+            Some(marked) => Ok(marked.into_bytes()),
+            None => Ok(Vec::new(alloc)),
+        },
+        PageCall::WithoutMarks => match without_marks(alloc, text, "caf\u{FFFD}")? {
+            Some(own) => Ok(own),
+            None => Err(Stop::WrongValue),
+        },
+        _ => Err(Stop::WrongValue),
+    }
+}
+
+// None where the encoding lacks a character.
+fn bytes_or_none(
+    alloc: Global,
+    encoded: Result<Vec<u8>, EncodeError>,
+) -> Result<Vec<u8>, Stop> {
+    match encoded {
+        Ok(bytes) => Ok(bytes),
+        Err(EncodeError::NoCharacter(_)) => Ok(Vec::new(alloc)),
+        Err(EncodeError::OutOfMemory) => Err(Stop::NoMemory),
     }
 }
 

@@ -6,7 +6,9 @@ use tl_patch::{Change, TagPatch, patch};
 use tl_patch_edit::{
     Content, ElementPatch, PlacedPatch, patch_each, patch_element, patch_elements,
 };
-use tl_patch_select::{Patched, edit_selected, patch_selected};
+use tl_patch_select::{
+    NodeChange, NodeEdit, Patched, edit_nodes, edit_selected, patch_nodes, patch_selected,
+};
 use tl_tree::{Flags, Tree};
 
 // What is called, of this page.
@@ -44,13 +46,15 @@ enum PatchCall {
     Each(&'static [PlacedPatch<'static>]),
     SelectedTags(&'static str, Change<'static>),
     SelectedElements(&'static str, ElementPatch<'static>),
+    NodeTags(&'static [NodeChange<'static>]),
+    NodeElements(&'static [NodeEdit<'static>]),
 }
 
 // The name of a call, the call, and the page that is made.
 type Row = (&'static str, PatchCall, &'static str);
 
 #[rattlefmt::skip]
-static ROWS: [Row; 21] = [
+static ROWS: [Row; 25] = [
     ("patch, no tag", PatchCall::Tags(&[]), "<p id=i>x</p><!-- y --><p class='k'>z"),
     ("patch, a key with another value", PatchCall::Tags(&[TagPatch { start: 0, change: SET }]), "<p id=\"&quot;j&quot;\">x</p><!-- y --><p class='k'>z"),
     ("patch, a new key and one less", PatchCall::Tags(&[TagPatch { start: 0, change: ADD }, TagPatch { start: 23, change: UNSET }]), "<p title=\"a&amp;b\" id=i>x</p><!-- y --><p>z"),
@@ -72,6 +76,10 @@ static ROWS: [Row; 21] = [
     ("patch_each, no patch", PatchCall::Each(&[]), "<p id=i>x</p><!-- y --><p class='k'>z"),
     ("patch_elements, no element", PatchCall::Elements(&[], ElementPatch::Remove), "<p id=i>x</p><!-- y --><p class='k'>z"),
     ("edit_selected, Fill with a text", PatchCall::SelectedElements("p", ElementPatch::Fill { content: TEXT }), "<p id=i>&lt;x</p><!-- y --><p class='k'>&lt;x"),
+    ("patch_nodes, no change", PatchCall::NodeTags(&[]), "<p id=i>x</p><!-- y --><p class='k'>z"),
+    ("patch_nodes, two changes of one tag and one of another", PatchCall::NodeTags(&[NodeChange { number: 6, change: UNSET }, NodeChange { number: 3, change: SET }, NodeChange { number: 3, change: ADD }]), "<p title=\"a&amp;b\" id=\"&quot;j&quot;\">x</p><!-- y --><p>z"),
+    ("edit_nodes, no edit", PatchCall::NodeElements(&[]), "<p id=i>x</p><!-- y --><p class='k'>z"),
+    ("edit_nodes, two edits of one element and one of another", PatchCall::NodeElements(&[NodeEdit { number: 6, patch: ElementPatch::PutBefore { content: MARKUP } }, NodeEdit { number: 3, patch: ElementPatch::Rename { name: b"i" } }, NodeEdit { number: 3, patch: ElementPatch::Append { content: TEXT } }]), "<i id=i>x&lt;x</i><!-- y --><i>m</i><p class='k'>z"),
 ];
 
 /// A call that changes a page in its own bytes, if there is one of this number.
@@ -84,6 +92,8 @@ pub fn call(number: usize, case: &mut Case) -> Option<Named> {
         PatchCall::Each(patches) => patch_elements_each(patches, wanted, case),
         PatchCall::SelectedTags(text, change) => patch_where(text, change, wanted, case),
         PatchCall::SelectedElements(text, patch) => edit_where(text, patch, wanted, case),
+        PatchCall::NodeTags(changes) => patch_each_node(changes, wanted, case),
+        PatchCall::NodeElements(edits) => edit_each_node(edits, wanted, case),
     };
     Some((name, answer))
 }
@@ -157,6 +167,28 @@ fn edit_where(
     let answer = measured!(
         case,
         edit_selected(case.alloc(), PAGE.as_bytes(), &tree, &selector, patch)
+    );
+    are_changed(&answer?, wanted)
+}
+
+fn patch_each_node(
+    changes: &[NodeChange<'_>],
+    wanted: &str,
+    case: &mut Case,
+) -> Result<(), Stop> {
+    let tree = Tree::read(case.alloc(), PAGE.as_bytes(), FLAGS)?;
+    let answer = measured!(
+        case,
+        patch_nodes(case.alloc(), PAGE.as_bytes(), &tree, changes)
+    );
+    are_changed(&answer?, wanted)
+}
+
+fn edit_each_node(edits: &[NodeEdit<'_>], wanted: &str, case: &mut Case) -> Result<(), Stop> {
+    let tree = Tree::read(case.alloc(), PAGE.as_bytes(), FLAGS)?;
+    let answer = measured!(
+        case,
+        edit_nodes(case.alloc(), PAGE.as_bytes(), &tree, edits)
     );
     are_changed(&answer?, wanted)
 }

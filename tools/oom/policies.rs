@@ -6,6 +6,7 @@ use tl_safe_fit::WordIndex;
 use tl_tree::{Flags, Tree};
 use tl_tree_safe::{
     ListTexts, Lists, Policy, WordLists, lines_of, sanitize, sanitize_fragment,
+    sanitize_fragment_telling, sanitize_telling,
 };
 
 // What is called.
@@ -13,6 +14,8 @@ use tl_tree_safe::{
 enum PolicyCall {
     Sanitize,
     SanitizeFragment,
+    SanitizeTelling,
+    Tell,
     Policy,
     Lists,
     Lines,
@@ -23,7 +26,7 @@ enum PolicyCall {
 type Row = (&'static str, PolicyCall, &'static str, &'static str);
 
 #[rattlefmt::skip]
-static ROWS: [Row; 10] = [
+static ROWS: [Row; 14] = [
     ("tl_tree_safe::sanitize, nothing", PolicyCall::Sanitize, "<script>x</script>", ""),
     ("tl_tree_safe::sanitize", PolicyCall::Sanitize, "<p id=user-i onclick=x>a</p><script>y</script><a href=\"https://c\">d</a>", "<p id=\"user-i\">a</p><a href=\"https://c\">d</a>"),
     ("sanitize_fragment, nothing", PolicyCall::SanitizeFragment, "<script>x</script>", ""),
@@ -34,6 +37,10 @@ static ROWS: [Row; 10] = [
     ("WordLists::new", PolicyCall::Lists, "b,,p", "p"),
     ("lines_of lists", PolicyCall::Lines, "b", "--tags b\n--keys title\n--link-keys\n--links\n--classes\n--prefix user-\n"),
     ("WordIndex::new", PolicyCall::Index, "b", "p"),
+    ("sanitize_telling, nothing goes", PolicyCall::SanitizeTelling, "<p>a</p>", "<p>a</p>"),
+    ("sanitize_telling", PolicyCall::SanitizeTelling, "<p onclick=x>a</p><script>y</script>", "<p>a</p>"),
+    ("sanitize_fragment_telling, nothing goes", PolicyCall::Tell, "<p>a</p>", ""),
+    ("sanitize_fragment_telling", PolicyCall::Tell, "<p onclick=x>a</p>\n<script>y</script>", "f:1:1: <p onclick>: the attribute isn't listed\nf:2:1: <script>: what is in it isn't shown as markup\n"),
 ];
 
 /// A call of a policy, if there is one of this number.
@@ -43,6 +50,8 @@ pub fn call(number: usize, case: &mut Case) -> Option<Named> {
     let answer = match call {
         PolicyCall::Sanitize => make_tree_safe(text, wanted, case),
         PolicyCall::SanitizeFragment => make_safe(text, wanted, case),
+        PolicyCall::SanitizeTelling => make_tree_safe_telling(text, wanted, case),
+        PolicyCall::Tell => tell(text, wanted, case),
         PolicyCall::Policy => judge(text, wanted, case),
         PolicyCall::Lists => read_lists(text, wanted, case),
         PolicyCall::Lines => write_lists(text, wanted, case),
@@ -51,13 +60,14 @@ pub fn call(number: usize, case: &mut Case) -> Option<Named> {
     Some((name, answer))
 }
 
+static FLAGS: Flags = Flags {
+    is_scripting: false,
+    counts_search: true,
+};
+
 fn make_tree_safe(page: &str, wanted: &str, case: &mut Case) -> Result<(), Stop> {
-    let flags = Flags {
-        is_scripting: false,
-        counts_search: true,
-    };
     let policy = Policy::blog();
-    let tree = Tree::read(case.alloc(), page.as_bytes(), flags)?;
+    let tree = Tree::read(case.alloc(), page.as_bytes(), FLAGS)?;
     let mut out = Vec::new(case.alloc());
     let answer = measured!(case, sanitize(case.alloc(), &policy, &tree, &mut out));
     answer?;
@@ -71,6 +81,29 @@ fn make_safe(text: &str, wanted: &str, case: &mut Case) -> Result<(), Stop> {
         sanitize_fragment(case.alloc(), &policy, text.as_bytes())
     );
     value(answer?.as_slice() == wanted.as_bytes())
+}
+
+fn make_tree_safe_telling(page: &str, wanted: &str, case: &mut Case) -> Result<(), Stop> {
+    let policy = Policy::blog();
+    let tree = Tree::read(case.alloc(), page.as_bytes(), FLAGS)?;
+    let mut out = Vec::new(case.alloc());
+    let mut told = Vec::new(case.alloc());
+    let answer = measured!(
+        case,
+        sanitize_telling(case.alloc(), &policy, &tree, &mut out, &mut told)
+    );
+    answer?;
+    value(out.as_slice() == wanted.as_bytes())
+}
+
+// The lines that tell what goes of a text in a file `f` are wanted.
+fn tell(text: &str, wanted: &str, case: &mut Case) -> Result<(), Stop> {
+    let policy = Policy::blog();
+    let answer = measured!(
+        case,
+        sanitize_fragment_telling(case.alloc(), &policy, text.as_bytes(), "f")
+    );
+    value(answer?.lines.as_slice() == wanted.as_bytes())
 }
 
 // What stands for lists of these tags, with links of no kind; where none are said, those of a blog.

@@ -97,6 +97,16 @@ def crawl(client: Any, found: list[Source], size: int, read: Callable[[list[Sour
         future.release()
 
 
+def processes_here(workers: int, **how: Any) -> Any:
+    """A cluster of so many processes of this machine. One that ends is started again, however long that takes: by itself a cluster gives it
+    up after 15 seconds, in which a machine with other work may not have started it, and without workers all waits for ever."""
+    import dask
+    from distributed import LocalCluster
+
+    dask.config.set({"distributed.deploy.lost-worker-timeout": "24h"})
+    return LocalCluster(n_workers=workers, threads_per_worker=1, processes=True, dashboard_address=None, **how)
+
+
 def main(words: list[str]) -> int:
     parser = argparse.ArgumentParser(description=__doc__, formatter_class=argparse.RawDescriptionHelpFormatter)
     parser.add_argument("pages", metavar="PAGES")
@@ -106,11 +116,11 @@ def main(words: list[str]) -> int:
     parser.add_argument("--part", metavar="N", type=int, default=64, help="how many pages a task reads")
     given = parser.parse_args(words)
     try:
-        from distributed import Client, LocalCluster
+        from distributed import Client
     except ImportError:
         print("crawl.py: dask's distributed scheduler is not here (Debian: python3-distributed)", file=sys.stderr)
         return 2
-    place = given.scheduler or LocalCluster(n_workers=given.workers, threads_per_worker=1, dashboard_address=None)
+    place = given.scheduler or processes_here(given.workers)
     count = lost = 0
     with Client(place) as client, open(given.table, "w", encoding="utf-8") as table:
         for row in crawl(client, sources(given.pages), given.part):

@@ -57,15 +57,37 @@ class Rows(unittest.TestCase):
                     with self.subTest(what):
                         self.assertEqual(eval(cell, names), wanted)
                         tried += 1
-        self.assertEqual(len(rows(text)), 33)
+        self.assertEqual(len(rows(text)), 38)
         if all(it is not None for it in others):
-            self.assertEqual(tried, 62)
+            self.assertEqual(tried, 70)
+
+
+class Edits(unittest.TestCase):
+    def test_each(self):
+        with open(DOCUMENT, encoding="utf-8") as file:
+            text = file.read()
+        page = re.search(r"```html\n(.*?)```", text, re.DOTALL)[1]
+        document, found = tlhtml.Document(page), re.findall(r"(?m)^\| (.+?) \| (`.+`) \| `(.+)` \|$", text.partition("## Edits")[2])
+        for what, own, other in found:
+            names, answers = {"tlhtml": tlhtml, "Edit": tlhtml.Edit}, []
+            for cell in own.strip("`").split("`, `"):
+                edited = document.edit_each("li.x", eval(f"lambda it: {cell}", names))
+                answers.append(tlhtml.Document(edited).select_one("ul").html)
+            if bs4:
+                soup = bs4.BeautifulSoup(page, "html5lib")
+                exec(other, {"bs4": bs4, "soup": soup, "it": soup.select_one("li.x")})
+                # (BeautifulSoup writes attributes in the order of their names)
+                answers = [str(bs4.BeautifulSoup(it, "html.parser")) for it in [*answers, str(soup.ul)]]
+            with self.subTest(what):
+                self.assertEqual(set(answers), {answers[0]})
+                self.assertEqual(edited == page, own == "`None`")
+        self.assertEqual(len(found), 17)
 
 
 class Tasks(unittest.TestCase):
     def test_each(self):
         with open(DOCUMENT, encoding="utf-8") as file:
-            text = file.read().partition("## Forty tasks")[2]
+            text = file.read().partition("## Forty tasks")[2].partition("## Edits")[0]
         page = re.search(r"```html\n(.*?)```", text, re.DOTALL)[1]
         names = {"tlhtml": tlhtml, "Document": tlhtml.Document, "Edit": tlhtml.Edit, "document": tlhtml.Document(page)}
         names |= {"re": re, "json": json, "copy": copy, "urljoin": urljoin}

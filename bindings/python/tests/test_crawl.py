@@ -71,13 +71,12 @@ class Rows(Checks):
 @unittest.skipUnless(importlib.util.find_spec("distributed"), "dask's distributed scheduler is not here")
 class Cluster(Checks):
     def test_a_worker_that_ends(self):
-        from distributed import Client, LocalCluster
+        from distributed import Client
 
         os.environ["PYTHONPATH"] = os.pathsep.join(filter(None, [EXAMPLES, os.environ.get("PYTHONPATH")]))
         with tempfile.TemporaryDirectory() as folder:
             put_pages(folder)
-            how = {"n_workers": 2, "threads_per_worker": 1, "processes": True, "dashboard_address": None, "silence_logs": 50}
-            with LocalCluster(**how) as cluster, Client(cluster) as client:
+            with crawl.processes_here(2, silence_logs=50) as cluster, Client(cluster) as client:
                 client.wait_for_workers(2)
                 workers = sorted(client.run(os.getpid).values())
                 rows = []
@@ -89,7 +88,7 @@ class Cluster(Checks):
 
     def test_a_page_that_ends_workers(self):
         """It has a row that says so, and so has each other page."""
-        from distributed import Client, LocalCluster
+        from distributed import Client
 
         def read(part):
             for it in part:
@@ -99,8 +98,7 @@ class Cluster(Checks):
 
         found = [crawl.Source(f"{number}.html", "none") for number in range(8)]
         os.environ["PYTHONPATH"] = os.pathsep.join(filter(None, [EXAMPLES, os.environ.get("PYTHONPATH")]))
-        how = {"n_workers": 2, "threads_per_worker": 1, "processes": True, "dashboard_address": None, "silence_logs": 50}
-        with LocalCluster(**how) as cluster, Client(cluster) as client:
+        with crawl.processes_here(2, silence_logs=50) as cluster, Client(cluster) as client:
             rows = list(crawl.crawl(client, found, 4, read))
         self.assertEqual(sorted(it["page"] for it in rows), [f"{number}.html" for number in range(8)])
         self.assertEqual([it["page"] for it in rows if it["error"]], ["3.html"])

@@ -3,10 +3,18 @@ import ctypes
 import os
 import unittest
 
-from tlhtml import Document, Edit, Policy, Selector, edit, sanitize
+from tlhtml import Document, Edit, Policy, PolicyError, Selector, edit, join_url, removed, sanitize, set_attribute, unset_attribute
 from tlhtml._calls import lib
 
 PAGE = "<ul><LI class=a @click=f() href='?a=1&b'>x &amp; y<LI>3 < 4</UL><p>z<table><td>y"
+
+
+def refused_tags():
+    """What is said of a policy with a tag that none may have."""
+    try:
+        return sanitize(PAGE, Policy.BLOG.lists(tags=["script"]))
+    except PolicyError as error:
+        return str(error)
 
 
 @unittest.skipUnless("TL_REFUSALS" in os.environ, "the heap refuses nothing")
@@ -33,7 +41,13 @@ class Refusals(unittest.TestCase):
         for call in (
             lambda: sanitize(PAGE),
             lambda: sanitize(PAGE, Policy.BLOG.lists(tags=["p", "li"])),
+            lambda: Policy.BLOG.lists(tags=["p", "li"]).options,
+            lambda: removed(PAGE, Policy.BLOG.lists(tags=["p"])),
+            lambda: refused_tags(),
             lambda: edit(PAGE, "li", "fill", text="<"),
+            lambda: (set_attribute(PAGE, "li", "id", "x"), unset_attribute(PAGE, "li", "class")),
+            lambda: Document(PAGE.encode(), "latin1").html,
+            lambda: join_url("https://a.org/", "b"),
             lambda: Document(PAGE).text,
             lambda: document.select("ul > li"),
             lambda: (document.select_one("ul > li"), item.select("ul > li"), item.select_one("ul > li"), item.closest("ul > li")),
@@ -46,6 +60,7 @@ class Refusals(unittest.TestCase):
             lambda: (document.select(own), document.select_one(own), item.parent.select(own), item.closest(own), item.matches(own)),
             lambda: document.select_values("li", "href"),
             lambda: document.edit_each("li", lambda it: {"id": str(it.number)}),
+            lambda: document.edit_each("li[href]", lambda it: Edit.unwrap()),
             lambda: document.edit_each("li[href]", lambda it: [Edit.unset("href"), Edit.fill(text="<")]),
         ):
             self.assertTrue(self.check(call))

@@ -504,6 +504,9 @@ class Wrong(unittest.TestCase):
             ("a key is a str, not int", lambda: 0 in item),
             ("a page is a str, not bytes", lambda: sanitize(b"<p>")),
             ("a policy is a Policy or its lists, not str", lambda: sanitize("<p>", "blog")),
+            ("a policy is a Policy or its lists, not str", lambda: removed("<p>", "blog")),
+            ("a page is a str, not bytes", lambda: removed(b"<p>")),
+            ("'Node' object is not iterable", lambda: list(item)),
             ("a list is a str or some of them, not int", lambda: Policy.BLOG.lists(tags=1)),
             ("a word of a list is a str, not int", lambda: Policy.BLOG.lists(tags=[1])),
             ("a prefix is a str, not int", lambda: Policy.BLOG.lists(id_prefix=1)),
@@ -574,6 +577,14 @@ class Closing(unittest.TestCase):
         self.assertEqual(Document(b"<meta charset=koi8-r>\xc9", encoding="latin1").text, "É")
         self.assertEqual(Document(b"\xfe\xff\x00\xe9", "latin1").text, "é")
         self.assertEqual(Document(b"\x83e\x83X\x83g" * 999, "sjis").text, "テスト" * 999)
+        for page, label, name in (
+            ("é", None, None),
+            (b"caf\xe9", None, "UTF-8"),
+            (b"caf\xe9", "latin1", "windows-1252"),
+            (b"<meta charset=koi8-r>", None, "KOI8-R"),
+            (b"\xfe\xff\x00\xe9", "latin1", "UTF-16BE"),
+        ):
+            self.assertEqual(Document(page, label).encoding, name)
         for label in ("", "nope"):
             with self.assertRaisesRegex(LookupError, "unknown encoding"):
                 Document(b"", label)

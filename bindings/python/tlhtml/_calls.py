@@ -259,18 +259,20 @@ def characters(text: bytes, place: int) -> int:
     return len(text[:place].decode(errors="ignore"))
 
 
-def decoded(page: bytes, encoding: str | None) -> bytes:
-    """A page in UTF-8. What bytes are in says their byte-order mark, else this label of the Encoding standard, else the page."""
+def decoded(page: bytes, encoding: str | None) -> tuple[bytes, str]:
+    """A page in UTF-8, and the name of the encoding that it was in. That says its byte-order mark, else this label of the Encoding
+    standard, else the page."""
     label = utf8(encoding, "an encoding") if encoding is not None else b""
     if encoding is not None and not label:
         raise LookupError(f"unknown encoding: {encoding!r}")
-    room = Room(ctypes.c_char, len(page) + len(page) // 8 + 64)
-    status = room.fill(lib.tl_decode_page, label, len(label), page, len(page))
-    if status == REFUSED:
-        raise LookupError(f"unknown encoding: {encoding!r}")
-    if status != DONE:
-        raise error_of(status)
-    return room.text().encode()
+    room, name = room_of(page), Room(ctypes.c_char, 64)
+    for it, call in ((name, lib.tl_encoding_of), (room, lib.tl_decode_page)):
+        status = it.fill(call, label, len(label), page, len(page))
+        if status == REFUSED:
+            raise LookupError(f"unknown encoding: {encoding!r}")
+        if status != DONE:
+            raise error_of(status)
+    return room.raw(), name.text()
 
 
 def version() -> str:

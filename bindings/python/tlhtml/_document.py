@@ -82,7 +82,7 @@ class Document:
         >>> Document(b"<meta charset=koi8-r><p>\\xcd\\xc9\\xd2").select_one("p").text
         'мир'
         """
-        lent = page_bytes(page, encoding)
+        lent, self._encoding = page_bytes(page, encoding)
         self._handle, self._lock = Handle(), threading.RLock()
         self._page = lent
         self._lines: list[int] | None = None
@@ -275,6 +275,15 @@ class Document:
         return document
 
     @property
+    def encoding(self) -> str | None:
+        """The encoding that the bytes of the page were in, by its name in the Encoding standard; None where the page was a str.
+
+        >>> Document(b"<meta charset=latin1><p>caf\\xe9").encoding
+        'windows-1252'
+        """
+        return self._encoding
+
+    @property
     def is_quirks(self) -> bool:
         """Whether it is in quirks mode, as without a doctype. There classes and ids of selectors hold in any case."""
         return self._number(lib.tl_is_quirks) != 0
@@ -442,6 +451,8 @@ class Node:
     """
 
     __slots__ = ("document", "number")
+    # (it isn't gone through by itself: there are its attributes, its children, and all below it)
+    __iter__ = None
 
     def __init__(self, document: Document, number: int) -> None:
         self.document, self.number = document, number

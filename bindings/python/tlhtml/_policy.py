@@ -103,7 +103,6 @@ class Lists:
         room = room_of(page)
         return room.fill(lib.tl_sanitize_html_with, self._lent, page, len(page), behind=(ctypes.c_uint8(),)), room
 
-
     def _removed(self, page: bytes) -> tuple[int, Room]:
         room = Room(ctypes.c_char, 64)
         return room.fill(lib.tl_removed_html, self._lent, page, len(page), behind=(ctypes.c_uint8(),)), room
@@ -152,6 +151,8 @@ def removed(html: str, policy: Policy | Lists = Policy.BLOG) -> list[Removal]:
     1:16 script None what is in it isn't shown as markup
     """
     page = utf8(html, "a page")
+    if not isinstance(policy, (Lists, int)):
+        raise TypeError(f"a policy is a Policy or its lists, not {type(policy).__name__}")
     lists = policy if isinstance(policy, Lists) else Policy(policy).lists()
     status, room = lists._removed(page)
     if status != DONE:

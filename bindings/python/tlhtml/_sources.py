@@ -16,13 +16,13 @@ class Readable(Protocol):
 Page = Union[str, bytes, bytearray, memoryview, "os.PathLike[str]", Readable]
 
 
-def page_bytes(page: Page, encoding: str | None = None) -> bytes:
-    """What the library is lent for a page: a str is markup; bytes, a path and a file are the bytes of a page, in this encoding or in what
-    they say. Lone surrogates are no text: UnicodeEncodeError says where."""
+def page_bytes(page: Page, encoding: str | None = None) -> tuple[bytes, str | None]:
+    """What the library is lent for a page, and the name of the encoding that its bytes were in: a str is markup and has none; bytes, a path
+    and a file are the bytes of a page, in this encoding or in what they say. Lone surrogates are no text: UnicodeEncodeError says where."""
     if isinstance(page, str):
         if encoding is not None:
             raise TypeError("a page that is a str has no encoding")
-        return page.encode()
+        return page.encode(), None
     if isinstance(page, (bytes, bytearray, memoryview)):
         return decoded(bytes(page), encoding)
     if isinstance(page, os.PathLike):

@@ -129,6 +129,15 @@ unsafe extern "C" {
         place: *mut usize,
         cause: *mut u8,
     ) -> u8;
+    pub fn tl_encoding_of(
+        label: *const u8,
+        label_len: usize,
+        page: *const u8,
+        page_len: usize,
+        out: *mut u8,
+        room: usize,
+        needed: *mut usize,
+    ) -> u8;
     pub fn tl_decode_page(
         label: *const u8,
         label_len: usize,

@@ -28,6 +28,8 @@ pub struct Document {
     tree: Tree,
     // How much the page has, by which room is measured.
     page_len: usize,
+    // The name of the encoding that its bytes were in.
+    encoding: Option<String>,
     // While a call lasts, what it is lent holds no document: so one call at a time.
     lent: Mutex<Lent>,
 }
@@ -69,29 +71,43 @@ impl Document {
         Ok(Document {
             tree: Tree::read(&mut lent.handle, page.len()).map_err(calls::error_of)?,
             page_len: page.len(),
+            encoding: None,
             lent: Mutex::new(lent),
         })
     }
 
     /// Reads a page of any encoding: that of its byte-order mark, else of this label of the Encoding standard (`latin1`, `koi8-r`), else
     /// what the page says, as browsers tell it. U+FFFD stands for bytes that are wrong.
+    ///
+    /// ```
+    /// let document = tlhtml::Document::parse_bytes(b"<meta charset=latin1><p>caf\xe9", None)?;
+    /// assert_eq!(document.text().collect::<String>(), "café");
+    /// assert_eq!(document.encoding(), Some("windows-1252"));
+    /// assert_eq!(tlhtml::Document::parse("x")?.encoding(), None);
+    /// # Ok::<(), tlhtml::Error>(())
+    /// ```
     pub fn parse_bytes(page: &[u8], encoding: Option<&str>) -> Result<Document, Error> {
         let label = encoding.unwrap_or("");
         if encoding == Some("") {
             return Err(Error::NoEncoding);
         }
-        let (at, len) = (label.as_ptr(), label.len());
-        let text = calls::items(
-            page.len() + page.len() / 8 + 64,
-            |out, room, needed| unsafe {
-                calls::tl_decode_page(at, len, page.as_ptr(), page.len(), out, room, needed)
-            },
-        );
-        match text {
-            Ok(text) => Document::parse(&calls::text_of(text)),
-            Err(calls::REFUSED) => Err(Error::NoEncoding),
-            Err(status) => Err(calls::error_of(status)),
-        }
+        let ((at, len), (page, page_len)) = (lent_text(label), (page.as_ptr(), page.len()));
+        let encoding = calls::text(64, |out, room, needed| unsafe {
+            calls::tl_encoding_of(at, len, page, page_len, out, room, needed)
+        });
+        let text = calls::text(page_len + page_len / 8 + 64, |out, room, needed| unsafe {
+            calls::tl_decode_page(at, len, page, page_len, out, room, needed)
+        });
+        let document = Document::parse(&text.map_err(encoding_error_of)?)?;
+        Ok(Document {
+            encoding: Some(encoding.map_err(encoding_error_of)?),
+            ..document
+        })
+    }
+
+    /// The encoding that the bytes of the page were in, by its name in the Encoding standard; `None` where the page was a text.
+    pub fn encoding(&self) -> Option<&str> {
+        self.encoding.as_deref()
     }
 
     pub(crate) fn tree(&self) -> &Tree {
@@ -357,6 +373,14 @@ fn values_in(bytes: &[u8]) -> Result<Vec<String>, u8> {
         calls::push(&mut values, calls::text_in(part)?)?;
     }
     Ok(values)
+}
+
+// What a status says of a page of bytes.
+fn encoding_error_of(status: u8) -> Error {
+    match status {
+        calls::REFUSED => Error::NoEncoding,
+        status => calls::error_of(status),
+    }
 }
 
 // A text as it is lent.
