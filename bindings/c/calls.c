@@ -108,6 +108,23 @@ static void of_policies(void) {
     RUNS_OUT("<p>x</p>", tl_sanitize_html_by(TL_COMMENTS, TEXT("<P>x"), OUT));
 }
 
+/* What a page is in, and its text. */
+static void of_encodings(void) {
+    static const char page[] = "<meta charset=koi8-r>\xc9";
+    PUTS("KOI8-R", tl_encoding_of(TEXT(""), TEXT(page), OUT));
+    PUTS("windows-1252", tl_encoding_of(TEXT(" Latin1\n"), TEXT(page), OUT));
+    PUTS("UTF-16BE", tl_encoding_of(TEXT("latin1"), TEXT("\xfe\xff\0a"), OUT));
+    PUTS("UTF-8", tl_encoding_of(TEXT(""), TEXT("\xe9"), OUT));
+    LEAVES(TL_REFUSED, 0, tl_encoding_of(TEXT("nope"), TEXT(page), OUT));
+    LEAVES(TL_NO_ROOM, 6, tl_encoding_of(TEXT(""), TEXT(page), ROOM(5)));
+    PUTS("<meta charset=koi8-r>\xd0\xb8", tl_decode_page(TEXT(""), TEXT(page), OUT));
+    PUTS("\xef\xbb\xbfx", tl_decode_page(TEXT("latin1"), TEXT("\xef\xbb\xbfx"), OUT));
+    PUTS("caf\xef\xbf\xbd", tl_decode_page(TEXT(""), TEXT("caf\xe9"), OUT));
+    LEAVES(TL_REFUSED, 0, tl_decode_page(TEXT("nope"), TEXT(page), OUT));
+    LEAVES(TL_NO_ROOM, 5, tl_decode_page(TEXT("latin1"), TEXT("caf\xe9"), ROOM(4)));
+    RUNS_OUT("caf\xc3\xa9", tl_decode_page(TEXT("latin1"), TEXT("caf\xe9"), OUT));
+}
+
 static size_t place;
 static uint8_t cause;
 
@@ -378,6 +395,7 @@ int main(void) {
     memset(out, '.', sizeof out);
     of_sanitize_html();
     of_policies();
+    of_encodings();
     of_lists();
     of_removals();
     of_patch();

@@ -23,8 +23,9 @@ and the first alone is well:
     it doesn't fit               the text that it changes isn't there once: write the line as it stands now
 
 With --gate a crate is not proved first: each function but the changed ones is taken by its contract, without its body and its proof
-(tools/mutants/alone.py), so a check costs the load of the crate and a proof of these functions. That is done right after `rt ci`, which
-proves the others, and over the libraries that it has left.
+(tools/mutants/alone.py), so a check costs the load of the crate and a proof of these functions. A row of a table, which is in no
+function, is judged by the function that the mutant's name says. That is done right after `rt ci`, which proves the others, and over the
+libraries that it has left.
 
 Answers that don't fit are left out, and the mutant is tried again: what is left then counts as refused, and a line says so where
 those answers name what the mutant took away; better change a value and keep the names there too. `rt must-fail` and `rt ci` take a
@@ -73,7 +74,9 @@ def try_mutants(workspace, names, jobs, is_alone=False):
     """What each mutant of the named crates is, and how many don't fit."""
     trials = Trials(is_alone)
     work, lost = mutants_of(workspace, names, trials.say)
-    for crate, _ in work:
+    for crate, mutants in work:
+        for it in mutants:
+            it.is_by_name = is_alone
         if not is_alone:
             trials.prove(crate, jobs)
     return trials.try_all(work, jobs), lost

@@ -21,14 +21,6 @@ pub {name}_spec : {{M : Type 1}} → statement M
 BY_HAND = ("Answers.antt", "Invariants.antt")
 
 
-def sources(crate):
-    """The paths of a crate's sources."""
-    found = []
-    for at, _, files in os.walk(f"{crate.folder}/src"):
-        found += [os.path.relpath(f"{at}/{it}", crate.folder) for it in files if it.endswith(".rt")]
-    return sorted(found)
-
-
 def modules_of(path):
     return [it for it in path[len("src/") : -len(".rt")].split("/") if it not in ("lib", "main", "mod")]
 
@@ -36,7 +28,7 @@ def modules_of(path):
 def types(crate):
     """The modules of each type that a crate declares under one name alone."""
     found = {}
-    for path in sources(crate):
+    for path in crate.sources():
         for it in TYPE.findall(crate.text(path)):
             found.setdefault(it, []).append(modules_of(path))
     return {it: modules[0] for it, modules in found.items() if len(modules) == 1}
@@ -91,7 +83,7 @@ class Alone:
         """The texts of sources and of proof files of such a crate (None leaves a file out). Functions whose proofs don't stand where
         the text of the crate says it are left as they are: strays, the folders that the front end refuses."""
         texts, whole = {}, self.whole_cycles()
-        for path in sources(self.crate):
+        for path in self.crate.sources():
             lines = self.crate.text(path).split("\n")
             for it in self.crate.functions_in(path):
                 at = place(self.crate, it, self.known)
@@ -105,7 +97,7 @@ class Alone:
 
     def whole_cycles(self):
         """The cycles of calls of which a function keeps its body, and so all do."""
-        functions = [it for path in sources(self.crate) for it in self.crate.functions_in(path) if it.cycle]
+        functions = [it for path in self.crate.sources() for it in self.crate.functions_in(path) if it.cycle]
         return {it.cycle for it in functions if it.key in self.changed or not place(self.crate, it, self.known)}
 
     def proof(self, at, function):

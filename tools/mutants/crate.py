@@ -35,13 +35,17 @@ class Crate:
             self.laid_out[path] = [Function(path, lines, at) for at, it in enumerate(lines) if HEAD.match(it)]
         return self.laid_out[path]
 
+    def sources(self):
+        """The paths of its sources."""
+        found = [f"{at[len(self.folder) + 1 :]}/{it}" for at, _, files in os.walk(f"{self.folder}/src") for it in files]
+        return sorted(it for it in found if it.endswith(".rt"))
+
     def function_at(self, path, line):
         return next((it for it in self.functions_in(path) if it.first <= line <= it.last), None)
 
     def without_lemmas(self, names):
         """Which of the prover's names mean functions whose proofs use no lemma by name: rows that compute, for one."""
-        paths = [f"{at[len(self.folder) + 1 :]}/{it}" for at, _, files in os.walk(f"{self.folder}/src") for it in files]
-        functions = [it for path in paths if path.endswith(".rt") for it in self.functions_in(path)]
+        functions = [it for path in self.sources() for it in self.functions_in(path)]
         found = [(it.has_lemmas, it.among(names)) for it in functions]
         return set().union(*[its for lemmas, its in found if not lemmas]).difference(*[its for lemmas, its in found if lemmas])
 

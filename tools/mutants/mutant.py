@@ -33,6 +33,8 @@ class Mutant:
         self.crate, self.name, self.pairs = crate, name, []
         # the answers that don't fit it, and of each of their files the lines of those that are left out, none for all
         self.misfits, self.left_out, self.is_alone = [], {}, False
+        # whether a row of a table, which is in no function, is judged by the function that the mutant's name says
+        self.is_by_name = False
         path = old = ""
         for line in lines:
             if line.startswith("file: "):
@@ -66,8 +68,15 @@ class Mutant:
     def functions(self):
         """The functions that are changed, with those that are in a cycle of calls with one of them, since they have one proof."""
         found = [it for it in (self.crate.function_at(*it) for it in self.places()) if it]
+        found = found or (self.named() if self.is_by_name else [])
         cycles = {it.cycle for it in found} - {None}
         return found + [it for path, _ in self.places() for it in self.crate.functions_in(path) if it.cycle in cycles]
+
+    def named(self):
+        """The functions that the mutant's name says, by type and name, or by module and name."""
+        *_, owner, name, _ = ["", *self.name.split(".")]
+        functions = [it for path in self.crate.sources() for it in self.crate.functions_in(path)]
+        return [it for it in functions if it.name == name and (it.owner or (it.modules or ["lib"])[-1]) == owner]
 
     def keys(self):
         return {it.key for it in self.functions()}

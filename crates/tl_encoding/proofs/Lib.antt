@@ -12,3 +12,4 @@ pub mod Unmarked
 pub mod Utf16
 pub mod Utf8
 pub mod Wellformed
+pub mod Wide

@@ -1,5 +1,5 @@
 //! Runs of ASCII, which stands for itself in most encodings.
-ghost use Rattle.std.specs.Prelude.{◌≡◌, ◌++◌, ◌+◌, ◌≤◌, OnOk, drop, length, string_bytes, take};
+ghost use Rattle.std.specs.Prelude.{◌≡◌, ◌++◌, ◌+◌, ◌<◌, ◌≤◌, IsTrue, OnOk, drop, length, string_bytes, take};
 ghost use Rattle.std.specs.Char.{is_ascii};
 ghost use Rattle.std.specs.List.{prefix_len};
 ghost use Rattle.std.specs.Str.{IsAscii};
@@ -52,6 +52,17 @@ pub(crate) fn ascii_len(bytes: &[u8]) -> usize
         at += 16;
     }
     at + ascii_len_near(&bytes[at..])
+}
+
+/// Whether the two bytes in front are ASCII. For a lone one its run's end isn't looked for.
+#[inline(always)]
+pub(crate) fn begins_ascii_run(bytes: &[u8]) -> bool
+    ensures { IsTrue result → 0 < prefix_len is_ascii bytes.now }
+{
+    match bytes {
+        [first, second, ..] => first.is_ascii() && second.is_ascii(),
+        _ => false,
+    }
 }
 
 /// Adds bytes that are ASCII, all at once.

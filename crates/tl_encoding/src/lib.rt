@@ -22,6 +22,7 @@ mod signature;
 mod single_byte;
 mod text;
 mod utf_16;
+mod written;
 
 pub use encoder::{EncodeError, encode, with_references};
 pub use encoding::{

@@ -6,6 +6,7 @@ ghost use Rattle.tl_encoding.specs.declared.multi_byte.Held.TheVariants.{Nothing
 
 use crate::ascii::{ascii_len, push_ascii};
 use crate::pairs::{Points, is_from, jis0212_pair, katakana, pair};
+use crate::written::push_character;
 use std::alloc::{AllocError, Global};
 use tl_indexes::ranges_code_point;
 
@@ -78,7 +79,7 @@ fn push_or_error(text: &mut String, points: Points, byte: u8) -> Result<(), Allo
         ≡ string_bytes text.old ++ encode_utf8_all (or_error (points_of points) byte)) }
 {
     match points {
-        Points::One(point) => text.push(point),
+        Points::One(point) => push_character(text, point),
         Points::Two(first, second) => {
             text.push(first)?;
             text.push(second)
@@ -100,7 +101,7 @@ pub(crate) fn push_point(text: &mut String, point: Option<char>) -> Result<(), A
         ≡ string_bytes text.old ++ encode_utf8_all (point_or_error point)) }
 {
     match point {
-        Some(point) => text.push(point),
+        Some(point) => push_character(text, point),
         None => text.push(char::REPLACEMENT_CHARACTER),
     }
 }
@@ -157,7 +158,7 @@ impl MultiByte {
             ≡ string_bytes text.old ++ encode_utf8_all (given_first self byte)) }
     {
         match self.alone(byte) {
-            Some(point) => text.push(point),
+            Some(point) => push_character(text, point),
             None if self.is_lead(byte) => Ok(()),
             None => text.push(char::REPLACEMENT_CHARACTER),
         }

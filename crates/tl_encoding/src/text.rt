@@ -7,12 +7,13 @@ ghost use Rattle.tl_encoding.specs.Utf8.{utf_8};
 ghost use Rattle.tl_encoding.specs.declared.text.DecodeError.TheVariants.{NoCharacter, NoText, OutOfMemory};
 ghost use Rattle.tl_encoding.specs.declared.encoding.Encoding.TheVariants.{Utf8};
 
-use crate::ascii::{ascii_len, push_ascii};
+use crate::ascii::{ascii_len, begins_ascii_run, push_ascii};
 use crate::encoding::Encoding;
 use crate::iso_2022_jp::{iso_2022_jp_text, iso_2022_jp_wrong};
 use crate::multi_byte::{multi_byte_text, multi_byte_wrong};
 use crate::single_byte::of_index;
 use crate::utf_16::{utf_16_text, utf_16_wrong};
+use crate::written::push_character;
 use std::alloc::{AllocError, Global};
 use thiserror::Error;
 
@@ -46,12 +47,12 @@ fn single_byte_text(alloc: Global, index: &[char; 128], bytes: &[u8]) -> Result<
     let mut text = String::with_capacity(alloc, bytes.len())?;
     let mut rest = bytes;
     while let [byte, after @ ..] = rest {
-        if byte.is_ascii() {
+        if begins_ascii_run(rest) {
             let (run, behind) = rest.split_at(ascii_len(rest));
             push_ascii(&mut text, run)?;
             rest = behind;
         } else {
-            text.push(of_index(index, *byte))?;
+            push_character(&mut text, of_index(index, *byte))?;
             rest = after;
         }
     }
@@ -90,7 +91,7 @@ fn user_defined_text(alloc: Global, bytes: &[u8]) -> Result<String, AllocError>
 {
     let mut text = String::with_capacity(alloc, bytes.len())?;
     for byte in bytes {
-        text.push(user_defined(*byte))?;
+        push_character(&mut text, user_defined(*byte))?;
     }
     Ok(text)
 }
