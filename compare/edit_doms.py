@@ -1,5 +1,5 @@
-"""What Chromium builds of pages in which `tl` edited one element, beside what the same operation of the DOM makes of the page's tree. Why
-another tree comes of some is counted by kind."""
+"""What Chromium builds of pages in which `tl` edited one element, beside what the same operation of the DOM makes of the page's tree:
+where that is another tree `tl` has to tell it, and nowhere else. Why another tree comes of some is counted by kind."""
 import collections
 import random
 
@@ -14,6 +14,7 @@ BATCH = 500
 PAGES, SHOWN = 100, 3
 KEY = "data-n"
 TEXT = "w"
+MARKUPS = ("<b>k</b>", "<b>k", "<p>k", "<div>k</div>", "<td>k", "<tr><td>k", "<li>k", "<form>k</form>", "<svg><g>k</g></svg>", "w<!--k-->", "<option>k")
 NAMES = ("x-y", "div", "b", "h1", "li")
 WORDS = ("remove", "unwrap", "rename", "replace", "fill", "prepend", "append", "before", "after")
 # Words that put something where the element stands, and those by which it is no more.
@@ -37,15 +38,17 @@ def numbered(text):
 class Case:
     """An edit of the one start tag of a number, by the words of the program."""
 
-    def __init__(self, page, word, number, content):
-        self.page, self.word, self.number, self.content = page, word, number, content
+    def __init__(self, page, word, number, content, is_markup=False):
+        self.page, self.word, self.number, self.content, self.is_markup = page, word, number, content, is_markup
         self.selector = f'[{KEY}="{number}"]'
 
     def words(self):
-        return [self.word, "-i", "--", self.selector, *([] if self.word in ("remove", "unwrap") else [self.content])]
+        options = ["-i", *(["--html"] if self.is_markup else [])]
+        return [self.word, *options, "--", self.selector, *([] if self.word in ("remove", "unwrap") else [self.content])]
 
     def asked(self, written):
-        return {"page": self.page, "selector": self.selector, "word": self.word, "content": self.content, "written": written}
+        word = f"{self.word} --html" if self.is_markup else self.word
+        return {"page": self.page, "selector": self.selector, "word": word, "content": self.content, "written": written}
 
 
 def ends_unclosed(page, at):
@@ -102,29 +105,35 @@ def cause(case):
 
 
 def made_cases(chance, made_page, asked, program, room):
-    """Edits of some pages, with what was written of those that aren't refused."""
+    """Edits of some pages, with what was written of those that aren't refused, and whether another tree was told."""
     word, number = chance.choice(WORDS), chance.randrange(8)
-    content = chance.choice(NAMES) if word == "rename" else TEXT
+    is_markup = word not in ("remove", "unwrap", "rename") and chance.random() < 0.5
+    content = chance.choice(NAMES if word == "rename" else MARKUPS if is_markup else [TEXT])
     pages = [page for page, count in (numbered(made_page(chance)) for _ in range(PAGES)) if count > number]
-    cases = [Case(page, word, number, content) for page in pages]
+    cases = [Case(page, word, number, content, is_markup) for page in pages]
     if not cases:
         return []
-    texts, refused = asked(program, cases[0].words(), room, pages)
-    return [(case, text) for at, (case, text) in enumerate(zip(cases, texts)) if at not in refused and text != case.page]
+    texts, refused, told = asked(program, cases[0].words(), room, pages)
+    return [(case, text, at in told) for at, (case, text) in enumerate(zip(cases, texts)) if at not in refused and text != case.page]
 
 
 def compared_doms(program, room, made_page, asked, count, seed, tally):
-    """Compares so many edits, and counts how many of each word have the tree that is wanted."""
+    """Compares so many edits, and counts how many of each word have the tree that is wanted. How many are told and are so, or aren't
+    told and aren't."""
     browser, chance, shown = chromium.chromium(), random.Random(seed), collections.Counter()
     cases = []
     while len(cases) < count:
         cases += made_cases(chance, made_page, asked, program, room)
-    found = chromium.all_answers(browser, "edit_doms.html", [case.asked(text) for case, text in cases], BATCH)
-    for (case, text), other in zip(cases, found):
+    found, differ = chromium.all_answers(browser, "edit_doms.html", [case.asked(text) for case, text, _ in cases], BATCH), 0
+    for (case, text, is_told), other in zip(cases, found):
         tally[f"{case.word}, in Chromium: the tree that is wanted"] += other is None
+        if is_told is (other is None):
+            differ += 1
+            print(f"differs: {case.words()!r} of {case.page!r}, told: {is_told}: {text!r}: {other!r}", flush=True)
         if other is not None:
             kind = cause(case)
             tally[f"{case.word}, in Chromium: another tree: {kind}"] += 1
             shown[kind] += 1
             if shown[kind] <= SHOWN:
                 print(f"another tree ({kind}): {case.words()!r} of {case.page!r}: {text!r}", flush=True)
+    return differ

@@ -169,19 +169,25 @@ class Edit:
         return is_read_so(page, written, should)
 
 
+# What is said of a page that is written all the same.
+TOLD = "browsers build another tree than is meant"
+
+
 def asked(program, words, room, pages):
-    """What is in the files of some pages after a run of the program, and what it said of each that it refused."""
+    """What is in the files of some pages after a run of the program, what it said of each that it refused, and of which it told that
+    browsers build another tree."""
     files = [f"{room}/{number}" for number in range(len(pages))]
     for file, page in zip(files, pages):
         with open(file, "wb") as it:
             it.write(page.encode())
     run = subprocess.run([program, *words, *files], stdout=subprocess.PIPE, stderr=subprocess.PIPE, check=False)
-    refused = dict(re.findall(r"^tl: [^\n]*?/(\d+): ([^\n]*)$", run.stderr.decode(), re.MULTILINE))
+    said = {int(number): what for number, what in re.findall(r"^tl: [^\n]*?/(\d+): ([^\n]*)$", run.stderr.decode(), re.MULTILINE)}
+    told = {number for number, what in said.items() if what.startswith(TOLD)}
     written = []
     for file in files:
         with open(file, "rb") as it:
             written.append(it.read().decode())
-    return written, {int(number): why for number, why in refused.items()}
+    return written, {number: why for number, why in said.items() if number not in told}, told
 
 
 def judged(edit, text, written, why, tally):
@@ -199,7 +205,7 @@ def judged(edit, text, written, why, tally):
 
 def compared(program, edit, pages, room, tally):
     """Compares an edit of some pages. How many differ."""
-    written, refused = asked(program, edit.words(), room, pages)
+    written, refused, _ = asked(program, edit.words(), room, pages)
     differ = 0
     for number, text in enumerate(pages):
         why = judged(edit, text, written[number], refused.get(number), tally)
@@ -233,7 +239,7 @@ def all_compared(program, given):
             differ += compared(program, edit, pages, room, tally)
         if given.chromium:
             differ += compared_scripts(program, room, tally)
-            compared_doms(program, room, made_page, asked, given.doms, given.seed, tally)
+            differ += compared_doms(program, room, made_page, asked, given.doms, given.seed, tally)
         differ += compared_trees(program, given.folders, given.words.split(","), given.limit, room, tally)
     for what, count in sorted(tally.items()):
         print(f"{count} {what}")

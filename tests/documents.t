@@ -138,6 +138,12 @@ Edits in a page's own bytes:
   <ul>
   <LI>Tea & milk
   <li>Bread</ul>Closed
+  $ printf '<p>Bread</p>' | tl append --html p '<div>x</div>'
+  <p>Bread<div>x</div></p> (no-eol)
+  tl: -: browsers build another tree than is meant by the edit that begins at line 1, column 1 (err)
+  $ printf '<table><tr><td>a</table>' | tl append --strict tr x
+  tl: -: browsers build another tree than is meant by the edit that begins at line 1, column 8; --strict refuses it (err)
+  [2]
 
 Safe pages:
 

@@ -190,6 +190,7 @@ A text may come from a file, or from standard input; one that begins with @ has 
   $ tl prepend --html p @rule page
   <p k="x"><hr>
   1 (no-eol)
+  tl: page: browsers build another tree than is meant by the edit that begins at line 1, column 1 (err)
   $ tl fill p @rule page
   <p k="x">&lt;hr>
   $ printf 'a & b' | tl fill p @- page

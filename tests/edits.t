@@ -268,6 +268,7 @@ Elements get another name, or go, or their tags alone.
   $ tl remove 'ul, li' list
   (empty)
   <CENTER>x</center >
+  tl: list: browsers build another tree than is meant by the edit that begins at line 1, column 1 (err)
   $ tl remove b list | cmp - list
   $ tl remove b list >/dev/null
   [1]
@@ -352,6 +353,7 @@ Something stands in their place, in them, before or after them: a text, or marku
   <script>1 < 2</script>b (no-eol)
   $ printf '<title>a &amp; b</title>c' | tl unwrap title
   a &amp; bc (no-eol)
+  tl: -: browsers build another tree than is meant by the edit that begins at line 1, column 1 (err)
 
 What is put before an element, or in its place, stands outside of the one before: an end tag that is missing there is put in, once, and
 none where nothing is open.
@@ -415,28 +417,37 @@ A body ends at its end tag, where that stands last in the page.
   $ tl append body x whole
   <body>
   <p>a</p>x</body></html>
+  tl: whole: browsers build another tree than is meant by the edit that begins at line 1, column 1 (err)
   $ tl fill body x whole
   <body>x</body></html>
+  tl: whole: browsers build another tree than is meant by the edit that begins at line 1, column 1 (err)
   $ tl unwrap body whole
   (empty)
   <p>a</p></html>
+  tl: whole: browsers build another tree than is meant by the edit that begins at line 1, column 1 (err)
   $ tl rename body div whole
   <div>
   <p>a</p></div></html>
+  tl: whole: browsers build another tree than is meant by the edit that begins at line 1, column 1 (err)
   $ tl remove body whole
   </html>
+  tl: whole: browsers build another tree than is meant by the edit that begins at line 1, column 1 (err)
   $ tl after body x whole
   tl: whole: the element at byte 0 can't be edited this way: its end tag is missing, or its kind doesn't allow it (err)
   [2]
   $ printf '<html><body><p>a</BODY> <!--b--></html>\n' >open
   $ tl append body '!' open
   <html><body><p>a</p>!</BODY> <!--b--></html>
+  tl: open: browsers build another tree than is meant by the edit that begins at line 1, column 7 (err)
   $ tl append html '!' open
   <html><body><p>a</BODY> <!--b-->!</html>
+  tl: open: browsers build another tree than is meant by the edit that begins at line 1, column 1 (err)
   $ tl remove p open
   <html><body></BODY> <!--b--></html>
+  tl: open: browsers build another tree than is meant by the edit that begins at line 1, column 13 (err)
   $ tl after p x open
   <html><body><p>a</p>x</BODY> <!--b--></html>
+  tl: open: browsers build another tree than is meant by the edit that begins at line 1, column 13 (err)
 
 With anything else behind it what it says is in the body to browsers, and it ends nothing.
 
@@ -692,8 +703,10 @@ Nor does an element get such a name before a raw text with one of them.
   </p><section class=d><style>p{content:"<img src=x onerror=f()>"}</style></section> (no-eol)
   $ printf '<div><style>a</style>&lt;</div>' | tl rename div template
   <template><style>a</style>&lt;</template> (no-eol)
+  tl: -: browsers build another tree than is meant by the edit that begins at line 1, column 1 (err)
   $ printf '<script>1 < 2</script><b>a</b>' | tl rename b svg
   <script>1 < 2</script><svg>a</svg> (no-eol)
+  tl: -: browsers build another tree than is meant by the edit that begins at line 1, column 23 (err)
 
 A selector is asked of the tree that browsers build, with the tags that they put in.
 
@@ -761,3 +774,150 @@ Where the tokenizer by itself reads a text, no tag can be changed.
   $ printf '<svg><title><b></title></svg>' | tl set b k v
   tl: -: the element at byte 12 has no start tag (err)
   [2]
+
+What is written is read again. Where browsers build another tree than the operation of the DOM would have made, that is told, and with --strict refused.
+
+  $ printf '<p>Bread</p>' | tl append --html p '<div>x</div>'
+  <p>Bread<div>x</div></p> (no-eol)
+  tl: -: browsers build another tree than is meant by the edit that begins at line 1, column 1 (err)
+  $ printf '<table><tr><td>a</table>' | tl append --strict tr x
+  tl: -: browsers build another tree than is meant by the edit that begins at line 1, column 8; --strict refuses it (err)
+  [2]
+  $ printf '<p>Bread</p>' >loaf
+  $ tl append --html p '<div>x</div>' loaf
+  <p>Bread<div>x</div></p> (no-eol)
+  tl: loaf: browsers build another tree than is meant by the edit that begins at line 1, column 1 (err)
+  $ tl append --strict --html p '<div>x</div>' loaf
+  tl: loaf: browsers build another tree than is meant by the edit that begins at line 1, column 1; --strict refuses it (err)
+  [2]
+  $ tl append --html p '<b>x' loaf
+  <p>Bread<b>x</p> (no-eol)
+  $ tl append --strict p '<div>' loaf
+  <p>Bread&lt;div></p> (no-eol)
+  $ tl append -i --strict --html p '<hr>' loaf
+  tl: loaf: browsers build another tree than is meant by the edit that begins at line 1, column 1; --strict refuses it (err)
+  [2]
+  $ cat loaf
+  <p>Bread</p> (no-eol)
+  $ tl append --strict --dry-run --html p '<hr>' loaf
+  tl: loaf: browsers build another tree than is meant by the edit that begins at line 1, column 1; --strict refuses it (err)
+  [2]
+  $ tl append --dry-run --html p '<hr>' loaf
+  loaf:1:1
+  tl: loaf: browsers build another tree than is meant by the edit that begins at line 1, column 1 (err)
+  $ tl append -i --html p '<hr>' loaf
+  tl: loaf: browsers build another tree than is meant by the edit that begins at line 1, column 1 (err)
+  $ cat loaf
+  <p>Bread<hr></p> (no-eol)
+  $ printf '<table>\n<tr><td>a</table>' >cells
+  $ tl before td x cells
+  <table>
+  <tr>x<td>a</table> (no-eol)
+  tl: cells: browsers build another tree than is meant by the edit that begins at line 2, column 5 (err)
+  $ tl append tr x cells
+  <table>
+  <tr><td>a</td>x</table> (no-eol)
+  tl: cells: browsers build another tree than is meant by the edit that begins at line 2, column 1 (err)
+  $ tl append td x cells
+  <table>
+  <tr><td>ax</table> (no-eol)
+  $ tl after --html td '<td>b' cells
+  <table>
+  <tr><td>a</td><td>b</table> (no-eol)
+  $ tl after --html td '<p>b' cells
+  <table>
+  <tr><td>a</td><p>b</table> (no-eol)
+  tl: cells: browsers build another tree than is meant by the edit that begins at line 2, column 5 (err)
+  $ tl remove tr cells
+  <table>
+  </table> (no-eol)
+  tl: cells: browsers build another tree than is meant by the edit that begins at line 2, column 1 (err)
+  $ tl remove td cells
+  <table>
+  <tr></table> (no-eol)
+  $ tl rename table div cells
+  <div>
+  <tr><td>a</tr></div> (no-eol)
+  tl: cells: browsers build another tree than is meant by the edit that begins at line 1, column 1 (err)
+  $ printf '<ul><li>a<li>b</ul>' | tl fill --html li '<b>k'
+  <ul><li><b>k<li><b>k</ul> (no-eol)
+  tl: -: browsers build another tree than is meant by the edit that begins at line 1, column 5 (err)
+  $ printf '<ul><li>a<li>b</ul>' | tl fill --html li '<b>k</b>'
+  <ul><li><b>k</b><li><b>k</b></ul> (no-eol)
+  $ printf '<pre>a</pre>' | tl prepend pre '
+  > x'
+  <pre>
+  xa</pre> (no-eol)
+  tl: -: browsers build another tree than is meant by the edit that begins at line 1, column 1 (err)
+  $ printf '<form><div>a</div></form>' | tl append --html div '<form>b</form>'
+  <form><div>a<form>b</form></div></form> (no-eol)
+  $ printf '<form><div>a</div></form><div>c</div>' | tl append --html 'form + div' '<form>b</form>'
+  <form><div>a</div></form><div>c<form>b</form></div> (no-eol)
+  $ printf '<form>a</form>' | tl fill --html form '<form>b</form>'
+  <form><form>b</form></form> (no-eol)
+  $ printf '<template>a</template>' | tl append --html template '<td>b'
+  <template>a<td>b</template> (no-eol)
+  $ printf '<p>x<template><b>a</b></template>' | tl unwrap template
+  <p>x<b>a</b> (no-eol)
+  $ printf '<template><b>a</b></template>' | tl unwrap template
+  <b>a</b> (no-eol)
+  tl: -: browsers build another tree than is meant by the edit that begins at line 1, column 1 (err)
+  $ printf '<math><annotation-xml encoding=text/html>a</annotation-xml><annotation-xml>b</annotation-xml></math>' | tl append --html annotation-xml '<p>c</p>'
+  <math><annotation-xml encoding=text/html>a<p>c</p></annotation-xml><annotation-xml>b<p>c</p></annotation-xml></math> (no-eol)
+  tl: -: browsers build another tree than is meant by the edit that begins at line 1, column 7 (err)
+  $ printf '<math><annotation-xml encoding=text/html>a</annotation-xml></math>' | tl append --html annotation-xml '<p>c</p>'
+  <math><annotation-xml encoding=text/html>a<p>c</p></annotation-xml></math> (no-eol)
+  $ printf '<ul><li id=a>a</li><li id=b>b</li></ul>' | tl append --html li '<b>c</b>'
+  <ul><li id=a>a<b>c</b></li><li id=b>b<b>c</b></li></ul> (no-eol)
+  $ printf '<head></head><body>a</body>' | tl remove head
+  <body>a</body> (no-eol)
+  tl: -: browsers build another tree than is meant by the edit that begins at line 1, column 1 (err)
+  $ printf '<head></head><body>a</body>' | tl before body b
+  <head></head>b<body>a</body> (no-eol)
+  tl: -: browsers build another tree than is meant by the edit that begins at line 1, column 14 (err)
+  $ printf '<head></head><body>a</body>' | tl append body b
+  <head></head><body>ab</body> (no-eol)
+  $ printf '<svg><desc>a</desc></svg>' | tl append --html desc '<p>b</p>'
+  <svg><desc>a<p>b</p></desc></svg> (no-eol)
+  $ printf '<svg><g>a</g></svg>' | tl append --html g '<p>b</p>'
+  <svg><g>a<p>b</p></g></svg> (no-eol)
+  tl: -: browsers build another tree than is meant by the edit that begins at line 1, column 6 (err)
+
+Of a key that rules of the standard ask for too.
+
+  $ printf '<svg><font>a</font></svg>' >font
+  $ tl set font color red font
+  <svg><font color="red">a</font></svg> (no-eol)
+  tl: font: browsers build another tree than is meant by the edit that begins at line 1, column 6 (err)
+  $ tl set --strict font color red font
+  tl: font: browsers build another tree than is meant by the edit that begins at line 1, column 6; --strict refuses it (err)
+  [2]
+  $ tl set --strict font class red font
+  <svg><font class="red">a</font></svg> (no-eol)
+  $ printf '<svg viewBox=1><g/></svg>' | tl set --strict svg viewbox 2
+  <svg viewBox="2"><g/></svg> (no-eol)
+  $ printf '<table><input type=hidden></table>' | tl unset input type
+  <table><input></table> (no-eol)
+  tl: -: browsers build another tree than is meant by the edit that begins at line 1, column 8 (err)
+  $ printf '<input type=hidden>' | tl set --strict input type text
+  <input type="text"> (no-eol)
+
+And of each key of elements of HTML: a start tag may stand for several.
+
+  $ printf '<p><b>1<p>2' | tl set 'p:first-child b' class k
+  <p><b class="k">1<p>2 (no-eol)
+  tl: -: browsers build another tree than is meant by the edit that begins at line 1, column 4 (err)
+  $ printf '<p><b>1<p>2' | tl set --strict b class k
+  <p><b class="k">1<p>2 (no-eol)
+  $ printf '<html><html k=v><p>a' | tl unset html k
+  <html><html k=v><p>a (no-eol)
+  tl: -: browsers build another tree than is meant by the edit that begins at line 1, column 1 (err)
+  $ printf '<p a=1>b' | tl set --strict p a 2
+  <p a="2">b (no-eol)
+  $ printf '<p a=1>b' | tl set --strict p b 2
+  <p b="2" a=1>b (no-eol)
+  $ printf '<p><b class=a>1<p>2' | tl set 'p:first-child b' class --suffix k
+  <p><b class="ak">1<p>2 (no-eol)
+  tl: -: browsers build another tree than is meant by the edit that begins at line 1, column 4 (err)
+  $ printf '<p><b class=a>1<p>2' | tl set --strict b class --suffix k
+  <p><b class="ak">1<p>2 (no-eol)

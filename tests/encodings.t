@@ -540,6 +540,7 @@ as the same tree by it. A page with bytes that are wrong isn't changed.
   $ tl before --html p '<title>Ł</title>' latin.html | LC_ALL=C sed -n l
   <meta charset=latin1><title>&#321;</title><p title="&#321;\363d&#378;\
   ">caf\351$
+  tl: latin.html: browsers build another tree than is meant by the edit that begins at line 1, column 22 (err)
   $ tl set -i p title 'Łódź' latin.html
   $ tl set --dry-run p title x latin.html
   latin.html:1:22
@@ -613,9 +614,8 @@ as the same tree by it. A page with bytes that are wrong isn't changed.
   $ printf '\376\377\000<\000p\000>\330\075' | tl set p k v
   tl: -: invalid byte sequence at byte 8; --encoding names the encoding (err)
   [2]
-  $ printf '<p>a' | tl set --strict p k v
-  error: unexpected argument '--strict' found (err)
-  ...
+  $ printf '<p>\377' | tl set --strict p k v
+  tl: -: no UTF-8 at byte 3; --encoding names the encoding (err)
   [2]
 
 Pages that people have: each says its encoding otherwise, or none.

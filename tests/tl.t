@@ -1036,6 +1036,7 @@ Help names each command and each option, and words the lists.
   --prefix
   --remove-word
   --replace
+  --strict
   --suffix
   --verbose
   $ grep -o '^WORDS are separated by commas' help

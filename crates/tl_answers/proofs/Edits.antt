@@ -16,11 +16,6 @@ use Rattle.tl_tree.specs.declared.error.ReadError.{ReadError}
 use Rattle.tl_tree.specs.declared.error.ReadError.TheVariants as read
 use Rattle.tl_tree.specs.declared.tree.Tree.{Tree}
 
-pub done_of_page : (own : Edit) (e : Css) (page : List ℕ) (tree : Tree) (r : Result Patched Refusal) → IsOfPage page tree →
-    IfOk r (λ (p : Patched). IsDone own e tree page p.bytes.items p.places.items) → IfOk r (λ (p : Patched). IsDoneOfPage own e page p.bytes.items p.places.items)
-done_of_page own e page tree (Ok p) of_page done = record { tree = tree; of_page = of_page; done = done }
-done_of_page own e page tree (Err why) of_page done = tt
-
 not_unread : (own : Edit) (e : Css) (page : List ℕ) (tree : Tree) (error : ReadError) → IsUndone own e tree page (refusal.Unread error) → ⊥
 not_unread (edit.Set key value) e page tree error undone = undone
 not_unread (edit.Rewrite key rewrite) e page tree error undone = undone
@@ -28,16 +23,11 @@ not_unread (edit.Unset key) e page tree error undone = undone
 not_unread (edit.Rename name) e page tree error undone = undone
 not_unread (edit.Element patch) e page tree error undone = undone
 
-refused_of_page : (own : Edit) (e : Css) (page : List ℕ) (tree : Tree) (why : Refusal) → IsOfPage page tree → IsUndone own e tree page why → IsUndoneOfPage own e page why
+pub refused_of_page : (own : Edit) (e : Css) (page : List ℕ) (tree : Tree) (why : Refusal) → IsOfPage page tree → IsUndone own e tree page why → IsUndoneOfPage own e page why
 refused_of_page own e page tree (refusal.Tag error) of_page undone = record { tree = tree; of_page = of_page; undone = undone }
 refused_of_page own e page tree (refusal.Element error) of_page undone = record { tree = tree; of_page = of_page; undone = undone }
 refused_of_page own e page tree (refusal.Unread error) of_page undone = absurd (not_unread own e page tree error undone)
 refused_of_page own e page tree refusal.OutOfMemory of_page undone = tt
-
-pub undone_of_page : (own : Edit) (e : Css) (page : List ℕ) (tree : Tree) (r : Result Patched Refusal) → IsOfPage page tree →
-    IfErr r (IsUndone own e tree page) → IfErr r (IsUndoneOfPage own e page)
-undone_of_page own e page tree (Ok p) of_page undone = tt
-undone_of_page own e page tree (Err why) of_page undone = refused_of_page own e page tree why of_page undone
 
 pub unread_page : (own : Edit) (e : Css) (page : List ℕ) (error : ReadError) → IsUnread page error → IsUndoneOfPage own e page (refusal_of_read error)
 unread_page own e page read.OutOfMemory unread = tt

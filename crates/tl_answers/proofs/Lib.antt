@@ -8,3 +8,4 @@ pub mod Unanswered
 pub mod Placed
 pub mod Recorded
 pub mod Edits
+pub mod Written

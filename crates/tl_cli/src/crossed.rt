@@ -11,11 +11,11 @@ pub struct Crossed<'p> {
     pub at: usize,
 }
 
-// The line and the column of a byte.
+/// The line and the column of a byte.
 #[derive(Clone, Copy)]
-struct Place<'p> {
-    page: &'p [u8],
-    at: usize,
+pub struct Place<'p> {
+    pub page: &'p [u8],
+    pub at: usize,
 }
 
 impl fmt::Display for Place<'_> {

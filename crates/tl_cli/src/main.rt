@@ -17,6 +17,7 @@ mod in_place_words;
 mod job;
 mod links;
 mod misread;
+mod other_tree;
 mod own_bytes;
 mod pages;
 mod patching;

@@ -185,12 +185,12 @@ pub fn marked_bytes(
     marked: &str,
     edited: &str,
 ) -> Result<Vec<u8>, Uneditable> {
-    let patched = match edited_page(alloc, edit, selector, marked.as_bytes()) {
-        Ok(patched) => patched,
+    let own = match edited_page(alloc, edit, selector, marked.as_bytes()) {
+        Ok(own) => own,
         Err(Refusal::OutOfMemory) => return Err(Uneditable::OutOfMemory),
         Err(_) => return Err(Uneditable::Joined),
     };
-    let Ok(own) = text(patched.bytes.as_slice()) else {
+    let Ok(own) = text(own.patched.bytes.as_slice()) else {
         return Err(Uneditable::Joined);
     };
     match without_marks(alloc, own, edited)? {

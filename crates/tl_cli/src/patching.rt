@@ -6,6 +6,7 @@ use crate::args::Pages;
 use crate::crossed::Crossed;
 use crate::in_place::replace;
 use crate::misread::Misread;
+use crate::other_tree::{OtherTree, tell_other_tree};
 use crate::own_bytes::{
     Editable, Uneditable, failure_of, is_misread, marked_bytes, own_bytes, to_be_edited,
 };
@@ -20,7 +21,7 @@ use crate::telling::{Tellings, tell_places};
 use crate::unread::{report_media, report_unread};
 use std::alloc::{AllocError, Global};
 use std::io::ErrorKind;
-use tl_answers::{Edit, Refusal, edited_page};
+use tl_answers::{Edit, Edited, Meant, Refusal, edited_page};
 use tl_css::Selector;
 use tl_diff::unified;
 use tl_encoding::{Encoding, media_of};
@@ -218,10 +219,50 @@ fn put_patched(
     }
 }
 
+// What is said of the tree that browsers build, unless it is the one that is meant.
+fn other_tree<'p>(edited: &Edited, page: &'p [u8], is_refused: bool) -> Option<OtherTree<'p>> {
+    let unread = match edited.meant {
+        Meant::Yes | Meant::Unasked => return None,
+        Meant::No => None,
+        Meant::Unread(error) | Meant::Unput(error) => Some(error),
+    };
+    let at = edited.patched.places.first().copied().unwrap_or(0);
+    Some(OtherTree {
+        page,
+        at,
+        unread,
+        is_refused,
+    })
+}
+
+// What comes of a page with changes. Where its tree isn't the one that is meant, that is said, or
+// it is refused.
+fn put_edited(
+    rt: &HostRuntime,
+    patching: &Patching<'_>,
+    is_strict: bool,
+    file: &str,
+    page: &Editable,
+    edited: &Edited,
+) -> Result<Answer, Failure> {
+    let Some(other) = other_tree(edited, page.text.as_bytes(), is_strict) else {
+        return put_patched(rt, patching, file, page, &edited.patched);
+    };
+    if is_strict {
+        return Ok(not_understood(rt, file, &other));
+    }
+    let answer = put_patched(rt, patching, file, page, &edited.patched)?;
+    if answer.is_made() {
+        tell_other_tree(rt, file, &other);
+    }
+    Ok(answer)
+}
+
 // Changes the text of a page.
 fn patch_text(
     rt: &HostRuntime,
     patching: &Patching<'_>,
+    is_strict: bool,
     file: &str,
     page: &Editable,
 ) -> Result<Answer, Failure> {
@@ -230,7 +271,7 @@ fn patch_text(
         Err(error) => return Ok(not_understood(rt, file, &error)),
     };
     match edited_page(rt.alloc(), &patching.edit, &patching.selector, own) {
-        Ok(patched) => put_patched(rt, patching, file, page, &patched),
+        Ok(edited) => put_edited(rt, patching, is_strict, file, page, &edited),
         Err(Refusal::OutOfMemory) => Err(Failure::OutOfMemory),
         Err(Refusal::Tag(error)) => Ok(not_understood(rt, file, &error)),
         Err(Refusal::Element(SelectionEditError::Refused(EditError::Misread(place, cause)))) => {
@@ -269,7 +310,7 @@ fn patch_page(
         return Ok(report_media(rt, file, media));
     }
     match to_be_edited(rt.alloc(), pages, bytes) {
-        Ok(page) => patch_text(rt, patching, file, &page),
+        Ok(page) => patch_text(rt, patching, pages.is_strict, file, &page),
         Err(Uneditable::Undecoded(error)) => Ok(no_text(rt, pages, file, &error)),
         Err(error) => unedited(rt, file, error),
     }

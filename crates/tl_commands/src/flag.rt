@@ -328,7 +328,7 @@ pub static TARGETS: [Flag; 3] = [
 ];
 
 // What is told of changes, and which status they give.
-pub static TELLINGS: [Flag; 3] = [
+pub static TELLINGS: [Flag; 4] = [
     Flag {
         name: "diff",
         short: None,
@@ -348,6 +348,13 @@ pub static TELLINGS: [Flag; 3] = [
         short: None,
         value: None,
         help: "Exit status 0 even if nothing matches",
+        excludes: &[],
+    },
+    Flag {
+        name: "strict",
+        short: None,
+        value: None,
+        help: "Refuse edits of which browsers build another tree",
         excludes: &[],
     },
 ];

@@ -1,7 +1,8 @@
 use Rattle.std.proofs.Common.{rules, Err, List, ℕ, ◌≡◌}
 use Rattle.tl_answers.specs.Edits.{refusal_of_read}
 use Rattle.tl_tree.specs.Pages.{IsOfPage}
-use Rattle.tl_answers.proofs.Edits.{done_of_page, read_refused, undone_of_page, unread_page}
+use Rattle.tl_answers.proofs.Edits.{read_refused, refused_of_page, unread_page}
+use Rattle.tl_answers.proofs.Written.{meant_of_page}
 use Rattle.tl_answers.proofs.edited.edited_page.Goals as goal
 
 pub returns-clause-done : goal.returns-clause-done
@@ -12,17 +13,24 @@ returns-clause-done c =
       quirks = c.in_ok-tree.ensures.quirks;
       sources = c.in_ok-tree.ensures.sources;
     } in
-    done_of_page c.args.edit.now c.args.selector.now c.args.page.now tree c.patched.result of_page c.patched.ensures.done
+    record { tree = tree; of_page = of_page; done = c.in_ok-patched.ensures.done }
 
-pub returns-clause-told : goal.returns-clause-told
-returns-clause-told c =
+pub returns-clause-meant : goal.returns-clause-meant
+returns-clause-meant c =
+    let patched = c.in_ok-patched.patched in
+    meant_of_page c.args.edit.now c.args.selector.now c.args.page.now patched.bytes.items c.in_ok-tree.tree c.in_ok-meant.meant c.in_ok-tree.ensures.tree c.in_ok-tree.ensures.quirks c.in_ok-meant.ensures.told
+
+pub returns-in_err-patched-clause-told : goal.returns-in_err-patched-clause-told
+returns-in_err-patched-clause-told c =
     let tree = c.in_ok-tree.tree in
     let of_page : IsOfPage c.args.page.now tree = record {
       rows = c.in_ok-tree.ensures.tree;
       quirks = c.in_ok-tree.ensures.quirks;
       sources = c.in_ok-tree.ensures.sources;
     } in
-    undone_of_page c.args.edit.now c.args.selector.now c.args.page.now tree c.patched.result of_page c.patched.ensures.told
+    let why = c.in_err-patched.field-0.0 in
+    let is : c.from_residual.result ≡ Err why = search rules in
+    rw is (refused_of_page c.args.edit.now c.args.selector.now c.args.page.now tree why of_page c.in_err-patched.ensures.told)
 
 pub returns-in_err-tree-clause-told : goal.returns-in_err-tree-clause-told
 returns-in_err-tree-clause-told c =
