@@ -13,3 +13,4 @@ pub mod Answers
 pub mod Pages
 pub mod Rewritten
 pub mod Edits
+pub mod Inner
