@@ -169,13 +169,15 @@ Safe pages:
 
 Tables, and statuses of `tl`:
 
-  $ printf '<table><thead><tr><th>Item<th>Price, EUR</thead><tr><td>Rye<td>3.20<tr><td>White "soft"<td> 2,10\n</table>' >prices.html
+  $ printf '<table id=prices><thead><tr><th>Item<th>Price, EUR</thead><tr><td>Rye<td>3.20<tr><td>White "soft"<td> 2,10\n</table>' >prices.html
   $ tl table prices.html
   Item,"Price, EUR"
   Rye,3.20
   "White ""soft""","2,10"
   $ tl table --number 2 prices.html
   [1]
+  $ tl table --in '#prices' --json prices.html
+  [["Item","Price, EUR"],["Rye","3.20"],["White \"soft\"","2,10"]]
   $ tl print none
   tl: none: No such file or directory (err)
   [4]

@@ -410,6 +410,92 @@ Tables with tabs, and with the words of a cell that spans once.
   a\x09\x09b,c (esc)
   \x09\x09d (esc)
 
+All tables, those in some elements, and tables as JSON.
+
+  $ printf '<table><tr><td>1</table><div id=d><table><tr><td>a,b<td>"<tr><td colspan=2>c</table><p><table id=t><tr><td>z</table></div>' >tables
+  $ tl table --all tables | sed 's/^$/-/'
+  1
+  -
+  "a,b",""""
+  c,c
+  -
+  z
+  $ tl table --all --in '#d' --tsv --as-written tables | sed 's/^$/-/'
+  a,b\x09" (esc)
+  c\x09 (esc)
+  -
+  z
+  $ tl table --in '#d' tables
+  "a,b",""""
+  c,c
+  $ tl table --in '#d' -n 2 tables
+  z
+  $ tl table --in '#t, td' tables
+  z
+  $ tl table --in '#d' -n 3 tables
+  [1]
+  $ tl table --in b --all tables
+  [1]
+  $ printf '<table id=o><tr><td><table><tr><td>i</table>o</table>' | tl table --in td
+  i
+  $ printf '<table id=o><tr><td><table><tr><td>i</table>o</table>' | tl table --all --in '#o' --json
+  [["i o"]]
+  [["i"]]
+  $ tl table --json tables
+  [["1"]]
+  $ tl table --json --all --as-written tables
+  [["1"]]
+  [["a,b","\""],["c",""]]
+  [["z"]]
+  $ tl table --jsonl -n 2 tables tables
+  {"file":"tables","rows":[["a,b","\""],["c","c"]]}
+  {"file":"tables","rows":[["a,b","\""],["c","c"]]}
+  $ tl table --jsonl <tables
+  {"file":"-","rows":[["1"]]}
+  $ tl table --json --with-name tables tables
+  [["1"]]
+  [["1"]]
+  $ tl table --all tables --with-name
+  tables,1
+  tables,
+  tables,"a,b",""""
+  tables,c,c
+  tables,
+  tables,z
+  $ printf '<table></table><table><tr></table><table><tr><td rowspan=2>\303\251\001<td>\n\\<tr></table>' | tl table --json --all
+  []
+  [[]]
+  [["\xc3\xa9\u0001","\\"],["\xc3\xa9\u0001",""]] (esc)
+  $ tl table --json --tsv tables
+  error: the argument '--tsv' cannot be used with '--json' (err)
+  ...
+  [2]
+  $ tl table --all -n 1 tables
+  error: the argument '--number <N>' cannot be used with '--all' (err)
+  ...
+  [2]
+  $ tl table --in 'b[' tables
+  tl: invalid selector: at byte 2: a name is missing (err)
+    b[ (err)
+      ^ (err)
+  [2]
+
+The text of all tables together is in proportion to the page.
+
+  $ python3 -c 'print(("<table><tr>" + "<td colspan=1000>" * 30) * 2 + "<tr>", end="")' >wide
+  $ tl table wide | wc -c
+  30000
+  $ tl table --all wide | wc -c
+  90001
+  $ python3 -c 'print("<table><tr>" + "<td colspan=1000>" * 30 + "</table>" + ("<table><tr>" + "<td colspan=1000>" * 30 + "<tr></table>") * 3, end="")' | tl table --all
+  tl: -: the table at byte 1595 has too many values (err)
+  [2]
+  $ python3 -c 'print("<table><tr>" + "<td colspan=1000>" * 30, end="")' | tl table --json | wc -c
+  90004
+  $ python3 -c 'print("<table><tr>" + "<td colspan=1000>" * 40, end="")' | tl table --json
+  tl: -: the table at byte 0 has too many values (err)
+  [2]
+
 Values and texts, by what they say.
 
   $ printf '<a k="&lt;b&gt; &amp;amp;">&lt;c&gt;</a>' | tl select -a k a

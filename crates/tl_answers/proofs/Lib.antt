@@ -1,7 +1,8 @@
 pub mod Roots
 pub mod Ends
 pub mod Joined
-pub mod Nth
+pub mod Tabled
+pub mod Within
 pub mod Marks
 pub mod Answered
 pub mod Unanswered

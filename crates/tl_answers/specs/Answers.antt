@@ -10,7 +10,7 @@ use Rattle.tl_answers.specs.Objects.{array_line}
 use Rattle.tl_answers.specs.Places.{placed_lines}
 use Rattle.tl_answers.specs.SourceLines.{source_lines}
 use Rattle.tl_answers.specs.Records.{record_lines}
-use Rattle.tl_answers.specs.Tables.{AskedTable, IsLargeAt, asked_table, table_lines}
+use Rattle.tl_answers.specs.Tables.{Fit, IsLargeAt, asked_tables, tables_found}
 use Rattle.tl_answers.specs.declared.error.AnswerError.{AnswerError}
 use Rattle.tl_answers.specs.declared.error.AnswerError.TheVariants as errors
 use Rattle.tl_answers.specs.declared.error.AnswerError.TheVariants.{LargeTable, LongUrl, Unread}
@@ -95,7 +95,8 @@ AreSelected (Readable but) page m = (m.found ≡ []) × AreLeftOut (option_copie
 AreSelected Comments page m = AreNone m
 AreSelected Print page m = AreNone m
 AreSelected PrettyPrint page m = AreNone m
-AreSelected (Table query) page m = AreNone m
+AreSelected (Table query) page m =
+    AreLeftOut (option_copied query.within) page m.found × (m.left_out ≡ [])
 AreSelected (Outline has_numbers) page m = AreNone m
 
 -- what is answered of the trees of a page where these are selected
@@ -111,21 +112,38 @@ answer_of Comments m end trees sources page =
     listed (comment_lines end (rows_of trees) (comments_of (rows_of trees)))
 answer_of Print m end trees sources page = whole (serialized false None trees)
 answer_of PrettyPrint m end trees sources page = whole (pretty false trees)
-answer_of (Table query) m end trees sources page = table_lines (rows_of trees) query
+answer_of (Table query) m end trees sources page =
+    tables_found query (rows_of trees) (asked_tables (rows_of trees) query m.found)
 answer_of (Outline has_numbers) m end trees sources page =
     whole (node_outline has_numbers (rows_of trees))
 
--- the table that is asked for, if there is one
-abbrev pub table_asked : List Row → Question → Option AskedTable
-table_asked rows (Select query) = None
-table_asked rows (Links own) = None
-table_asked rows Text = None
-table_asked rows (Readable but) = None
-table_asked rows Comments = None
-table_asked rows Print = None
-table_asked rows PrettyPrint = None
-table_asked rows (Table query) = asked_table rows query
-table_asked rows (Outline has_numbers) = None
+-- the tables that are asked for, if there are any, are in proportion to a page of so many bytes,
+-- where these nodes are selected
+abbrev pub Fits : ℕ → List Row → Question → Matches → Type 0
+Fits size rows (Select query) m = ⊤
+Fits size rows (Links query) m = ⊤
+Fits size rows Text m = ⊤
+Fits size rows (Readable but) m = ⊤
+Fits size rows Comments m = ⊤
+Fits size rows Print m = ⊤
+Fits size rows PrettyPrint m = ⊤
+Fits size rows (Table query) m = Fit size query rows (asked_tables rows query m.found)
+Fits size rows (Outline has_numbers) m = ⊤
+
+-- tables are asked for that are not, and the start tag of the first one that is too much begins
+-- there
+abbrev pub HasLargeTable : ℕ → Page → (ℕ → Option Source) → Question → ℕ → Type 0
+HasLargeTable size page sources (Select query) at = ⊥
+HasLargeTable size page sources (Links query) at = ⊥
+HasLargeTable size page sources Text at = ⊥
+HasLargeTable size page sources (Readable but) at = ⊥
+HasLargeTable size page sources Comments at = ⊥
+HasLargeTable size page sources Print at = ⊥
+HasLargeTable size page sources PrettyPrint at = ⊥
+HasLargeTable size page sources (Table query) at =
+    (m : Matches) → AreSelected (Table query) page m →
+    IsLargeAt size query page.rows sources (asked_tables page.rows query m.found) at
+HasLargeTable size page sources (Outline has_numbers) at = ⊥
 
 -- it is asked where links lead
 abbrev pub AsksForUrls : Question → Type 0
@@ -139,11 +157,11 @@ AsksForUrls PrettyPrint = ⊥
 AsksForUrls (Table query) = ⊥
 AsksForUrls (Outline has_numbers) = ⊥
 
--- why nothing is answered of a tree
+-- why nothing is answered of the tree of a page of so many bytes
 abbrev pub IsUnanswered :
-    ℕ → List Row → (ℕ → Option Source) → Question → AnswerError → Type 0
-IsUnanswered size rows sources question (Unread error) = ⊥
-IsUnanswered size rows sources question (LargeTable at) =
-    IsLargeAt size rows sources (table_asked rows question) at
-IsUnanswered size rows sources question LongUrl = AsksForUrls question
-IsUnanswered size rows sources question errors.OutOfMemory = ⊤
+    ℕ → Page → (ℕ → Option Source) → Question → AnswerError → Type 0
+IsUnanswered size page sources question (Unread error) = ⊥
+IsUnanswered size page sources question (LargeTable at) =
+    HasLargeTable size page sources question at
+IsUnanswered size page sources question LongUrl = AsksForUrls question
+IsUnanswered size page sources question errors.OutOfMemory = ⊤

@@ -14,3 +14,4 @@ pub mod Pages
 pub mod Rewritten
 pub mod Edits
 pub mod Meant
+pub mod Inner

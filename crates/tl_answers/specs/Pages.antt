@@ -1,8 +1,7 @@
 -- What is answered of a page: of the tree that the HTML standard builds of its bytes.
 use Rattle.std.specs.Prelude.{List, None, Option, Some, false, length, true, ℕ, ⊤, ◌≡◌, ◌≤◌}
-use Rattle.tl_answers.specs.Answers.{AsksForUrls, Matches, answer_of, table_asked}
+use Rattle.tl_answers.specs.Answers.{AsksForUrls, Fits, HasLargeTable, Matches, answer_of}
 use Rattle.tl_answers.specs.Findings.{Finding}
-use Rattle.tl_answers.specs.Tables.{Fits, IsLargeAt}
 use Rattle.tl_answers.specs.declared.error.AnswerError.{AnswerError}
 use Rattle.tl_answers.specs.declared.error.AnswerError.TheVariants as errors
 use Rattle.tl_answers.specs.declared.error.AnswerError.TheVariants.{LargeTable, LongUrl, Unread}
@@ -44,7 +43,7 @@ pub record IsAnswered (question : Question) (m : Matches) (end page : List ℕ)
   pub sources : ℕ → Option Source
   pub are_sources : AreSources page sources
   pub answer : finding ≡ answer_of question m end (html_tree page).trees sources page
-  pub fits : Fits (length page) (page_rows page) (table_asked (page_rows page) question)
+  pub fits : Fits (length page) (page_rows page) question m
 
 -- why it isn't read
 abbrev pub IsUnread : List ℕ → ReadError → Type 0
@@ -54,14 +53,13 @@ IsUnread page (OutOfProportion at) =
     (is_in_proportion_by standard page ≡ false)
     × IsOutOfProportionAt page (page_begin standard page) at
 
--- the lines of the table that is asked for are out of proportion to the page, and its start tag
--- begins there
+-- the tables that are asked for are out of proportion to the page, and the start tag of the first
+-- one that is too much begins there
 pub record HasLargeTableAt (question : Question) (page : List ℕ) (at : ℕ) : Type 0 where
   pub in_proportion : is_in_proportion_by standard page ≡ true
   pub sources : ℕ → Option Source
   pub are_sources : AreSources page sources
-  pub large :
-      IsLargeAt (length page) (page_rows page) sources (table_asked (page_rows page) question) at
+  pub large : HasLargeTable (length page) (searched page) sources question at
 
 -- why nothing is answered of it
 abbrev pub IsRefused : Question → List ℕ → AnswerError → Type 0

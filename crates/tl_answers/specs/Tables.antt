@@ -1,19 +1,21 @@
--- A table of a page.
-use Rattle.std.specs.Option.{option_and_then, option_map_or}
-use Rattle.std.specs.Prelude.{Bool, List, None, Option, Some, [], codes, false, filter, length, min, option_map, slice_get, ℕ, ⊤, ◌&&◌, ◌*◌, ◌+◌, ◌-◌, ◌<◌, ◌^◌, ◌≡◌, ◌≤◌}
+-- Tables of a page.
+use Rattle.std.specs.Option.{option_and_then, option_copied, option_map_or}
+use Rattle.std.specs.Prelude.{Bool, List, None, Option, Some, [], codes, drop, false, filter, flat_map, get_or, length, min, suc, take, ℕ, ◌&&◌, ◌*◌, ◌+◌, ◌++◌, ◌-◌, ◌<◌, ◌^◌, ◌≡◌, ◌≤◌, ◌∷◌}
 use Rattle.std.specs.Str.{bytes_eq}
 use Rattle.tl_answers.specs.Document.{document_element}
-use Rattle.tl_answers.specs.Findings.{Finding, listed, whole}
+use Rattle.tl_answers.specs.Findings.{Finding, of_nodes}
+use Rattle.tl_answers.specs.LeftOut.{is_within, marks_in}
 use Rattle.tl_answers.specs.Lines.{is_html_at}
-use Rattle.tl_answers.specs.declared.error.AnswerError.{AnswerError}
-use Rattle.tl_answers.specs.declared.error.AnswerError.TheVariants.{LargeTable, LongUrl, OutOfMemory, Unread}
+use Rattle.tl_answers.specs.declared.tables.TableForm.{TableForm}
+use Rattle.tl_answers.specs.declared.tables.TableForm.TheVariants.{Json, Sheet}
 use Rattle.tl_answers.specs.declared.tables.TableQuery.{TableQuery}
+use Rattle.tl_css.specs.Selector.{Css}
 use Rattle.tl_tree.specs.Asked.{name_of, node_at}
 use Rattle.tl_tree.specs.Below.{elements_below}
 use Rattle.tl_tree.specs.Rows.{Row}
 use Rattle.tl_tree.specs.declared.source.Source.{Source}
 use Rattle.tl_tree_extract.specs.Sheet.{table_written}
-use Rattle.tl_tree_extract.specs.declared.column.Columns.{Columns}
+use Rattle.tl_tree_extract.specs.SheetJson.{table_line}
 use Rattle.tl_tree_extract.specs.declared.sheet.Spans.{Spans}
 
 abbrev pub is_table_name : Option (List ℕ) → Bool
@@ -30,61 +32,70 @@ abbrev pub tables_of : List Row → List ℕ
 tables_of rows =
     filter (is_table_at rows) (option_map_or (elements_below rows) (document_element rows) [])
 
--- a table of a page, by its node, and how it is written
-pub record AskedTable : Type 0 where
-  pub node : ℕ
-  pub columns : Columns
-  pub spans : Spans
+-- those that are nodes where a selector holds, which are these, or in such a node; all where there
+-- is no selector
+abbrev pub tables_within : Option Css → List Row → List ℕ → List ℕ
+tables_within None rows found = tables_of rows
+tables_within (Some selector) rows found =
+    filter (is_within (marks_in rows found) rows) (tables_of rows)
 
--- the table that is asked for, if there is one
-abbrev pub asked_table : List Row → TableQuery → Option AskedTable
-asked_table rows query =
-    option_map
-    (λ n. record { node = n; columns = query.columns; spans = query.spans })
-    (slice_get (tables_of rows) query.number)
+-- the one of a number, from 0, or all
+abbrev pub numbered : Option ℕ → List ℕ → List ℕ
+numbered None tables = tables
+numbered (Some number) tables = take 1 (drop number tables)
 
--- its lines
-abbrev pub written_table : List Row → AskedTable → List ℕ
-written_table rows table = table_written table.columns table.spans rows table.node
+-- the tables that are asked for, where the selector holds of these nodes
+abbrev pub asked_tables : List Row → TableQuery → List ℕ → List ℕ
+asked_tables rows query found =
+    numbered query.number (tables_within (option_copied query.within) rows found)
 
-abbrev pub table_or_none : List Row → Option AskedTable → Finding
-table_or_none rows None = listed []
-table_or_none rows (Some table) = whole (written_table rows table)
+-- the text of a table
+abbrev pub table_text : TableForm → Spans → List Row → ℕ → List ℕ
+table_text (Sheet columns) spans rows n = table_written columns spans rows n
+table_text (Json file) spans rows n = table_line (option_copied file) spans rows n
 
-abbrev pub table_lines : List Row → TableQuery → Finding
-table_lines rows query = table_or_none rows (asked_table rows query)
+-- what stands between two: an empty line, and nothing between lines of JSON
+abbrev pub gap : TableForm → List ℕ
+gap (Sheet columns) = 10 ∷ []
+gap (Json file) = []
+
+-- a table behind another one
+abbrev pub later_text : TableForm → Spans → List Row → ℕ → List ℕ
+later_text form spans rows n = gap form ++ table_text form spans rows n
+
+-- tables one behind the other
+abbrev pub tables_text : TableForm → Spans → List Row → List ℕ → List ℕ
+tables_text form spans rows [] = []
+tables_text form spans rows (n ∷ ns) =
+    table_text form spans rows n ++ flat_map (later_text form spans rows) ns
+
+-- what is answered of these tables; where there is none, nothing is found
+abbrev pub tables_found : TableQuery → List Row → List ℕ → Finding
+tables_found query rows tables = of_nodes tables (tables_text query.form query.spans rows tables)
 
 -- In proportion
 
--- the most bytes that the lines of a table may have, of a page of so many; as numbers of 64 bits
+-- the most bytes that the text of tables may have, of a page of so many; as numbers of 64 bits
 -- have it
 abbrev pub table_limit : ℕ → ℕ
 table_limit size = min (65536 + 64 * size) (2 ^ 64 - 1)
 
--- how many bytes the lines of a table have
-abbrev pub table_length : List Row → AskedTable → ℕ
-table_length rows table = length (written_table rows table)
-
--- the lines of a table, if there is one, are no more
-abbrev pub Fits : ℕ → List Row → Option AskedTable → Type 0
-Fits size rows None = ⊤
-Fits size rows (Some table) = table_length rows table ≤ table_limit size
+-- the text of these tables has no more
+abbrev pub Fit : ℕ → TableQuery → List Row → List ℕ → Type 0
+Fit size query rows tables =
+    length (tables_text query.form query.spans rows tables) ≤ table_limit size
 
 -- where the start tag of a node begins; 0 where none stands for it
 abbrev pub start_of : Option Source → ℕ
 start_of None = 0
 start_of (Some source) = source.start
 
--- there is a table whose lines are more, and its start tag begins there
-abbrev pub IsLargeAt : ℕ → List Row → (ℕ → Option Source) → Option AskedTable → ℕ → Type 0
-IsLargeAt size rows sources None at = ⊥
-IsLargeAt size rows sources (Some table) at =
-    (table_limit size < table_length rows table) × (at ≡ start_of (sources table.node))
-
--- why this table isn't written
-abbrev pub IsTableReason :
-    ℕ → List Row → (ℕ → Option Source) → Option AskedTable → AnswerError → Type 0
-IsTableReason size rows sources table (Unread error) = ⊥
-IsTableReason size rows sources table (LargeTable at) = IsLargeAt size rows sources table at
-IsTableReason size rows sources table LongUrl = ⊥
-IsTableReason size rows sources table OutOfMemory = ⊤
+-- the first so many of these tables fit, with one more they don't, and its start tag begins there
+pub record IsLargeAt (size : ℕ) (query : TableQuery) (rows : List Row)
+    (sources : ℕ → Option Source) (tables : List ℕ) (at : ℕ) : Type 0 where
+  pub count : ℕ
+  pub is_table : count < length tables
+  pub few : Fit size query rows (take count tables)
+  pub long : table_limit size
+      < length (tables_text query.form query.spans rows (take (suc count) tables))
+  pub begins : at ≡ start_of (sources (get_or tables count 0))

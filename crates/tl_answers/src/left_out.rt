@@ -1,6 +1,7 @@
 //! What is left out of texts.
 ghost use Rattle.std.specs.Option.{option_copied};
-ghost use Rattle.std.specs.Prelude.{IfOk, List, ℕ, ◌≡◌};
+ghost use Rattle.std.specs.Prelude.{IfOk, List, length, ℕ, ◌≡◌};
+ghost use Rattle.tl_answers.specs.Inner.Within.{withins_before};
 ghost use Rattle.tl_answers.specs.LeftOut.{AreLeftOut, is_within, marks_in};
 ghost use Rattle.tl_tree.specs.TreeView.{rows_in};
 ghost use Rattle.tl_tree_extract.specs.Boxes.{is_left_out};
@@ -40,7 +41,8 @@ pub(crate) fn left_out(
     }
 }
 
-fn has_mark(marks: &[bool], number: usize) -> bool
+/// Whether a node has a mark.
+pub(crate) fn has_mark(marks: &[bool], number: usize) -> bool
     ensures { result ≡ is_left_out marks.now number }
 {
     number < marks.len() && marks[number]
@@ -59,4 +61,44 @@ pub(crate) fn is_within(tree: &Tree<'_>, marks: &[bool], number: usize) -> bool
         }
     }
     false
+}
+
+// Whether a node, or one that it is in, has a mark, by what is known of those before it.
+#[tactic(auto, using(crate::proofs::Within::within_outer, crate::proofs::Within::within_none))]
+fn is_within_by(tree: &Tree<'_>, marks: &[bool], known: &[bool], number: usize) -> bool
+    requires { known.now ≡ withins_before marks.now (rows_in tree.now) number }
+    ensures { result ≡ is_within marks.now (rows_in tree.now) number }
+{
+    let is_marked = has_mark(marks, number);
+    match tree.parent(number) {
+        Some(outer) => is_marked | has_mark(known, outer),
+        None => is_marked,
+    }
+}
+
+// A mark for each node that has one, or is in a node that has one.
+fn spread(alloc: Global, tree: &Tree<'_>, marks: &[bool]) -> Result<Vec<bool>, AllocError>
+    ensures { let rows = rows_in tree.now in
+        IfOk result (λ all. all.items ≡ withins_before marks.now rows (length rows)) }
+{
+    let mut all = Vec::new(alloc);
+    for number in 0..tree.len() {
+        let own = is_within_by(tree, marks, all.as_slice(), number);
+        all.push(own)?;
+    }
+    Ok(all)
+}
+
+/// A mark for each node where a selector holds, or that is in such a node.
+pub(crate) fn within(
+    alloc: Global,
+    tree: &Tree<'_>,
+    selector: &Selector,
+) -> Result<Vec<bool>, AllocError>
+    ensures { (ns : List ℕ) → AreFound (page_of tree.now) selector.now ns → IfOk result
+        (λ marks. (n : ℕ) → is_left_out marks.items n
+        ≡ is_within (marks_in (rows_in tree.now) ns) (rows_in tree.now) n) }
+{
+    let marks = marks_where(alloc, tree, selector)?;
+    spread(alloc, tree, marks.as_slice())
 }

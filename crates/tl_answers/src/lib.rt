@@ -32,4 +32,4 @@ pub use page::answer_of_page;
 pub use question::{Question, answer};
 pub use records::Records;
 pub use selection::{Listing, Query};
-pub use tables::TableQuery;
+pub use tables::{TableForm, TableQuery};

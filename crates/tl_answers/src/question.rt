@@ -1,11 +1,10 @@
 //! What is asked of the tree of a page.
 ghost use Rattle.std.specs.Option.{option_copied};
 ghost use Rattle.std.specs.Prelude.{IfErr, IfOk, List, OnOk, length, ℕ, ◌≡◌};
-ghost use Rattle.tl_answers.specs.Answers.{AreSelected, IsUnanswered, Matches, answer_of, table_asked};
+ghost use Rattle.tl_answers.specs.Answers.{AreSelected, Fits, IsUnanswered, Matches, answer_of};
 ghost use Rattle.tl_answers.specs.Findings.{finding_of, whole};
 ghost use Rattle.tl_answers.specs.LeftOut.{AreLeftOut, marks_in};
 ghost use Rattle.tl_answers.specs.Lines.{line_ended};
-ghost use Rattle.tl_answers.specs.Tables.{Fits};
 ghost use Rattle.tl_dom_spec.specs.HtmlForest.{HtmlForest};
 ghost use Rattle.tl_tree.specs.Rows.{rows_of};
 ghost use Rattle.tl_tree.specs.Sources.{source_at};
@@ -43,8 +42,8 @@ pub enum Question<'w> {
     Print,
     /// The same with a tag on each line where white space doesn't count.
     PrettyPrint,
-    /// A table of it.
-    Table(TableQuery),
+    /// Tables of it.
+    Table(TableQuery<'w>),
     /// What its nodes are, as a tree, with their numbers or without.
     Outline(bool),
 }
@@ -64,7 +63,7 @@ fn readable_but(
 }
 
 /// What is answered of the tree of a page, where what is listed ends with `end`.
-/// A table whose lines are out of proportion to the page is refused.
+/// Tables whose text is out of proportion to the page are refused.
 #[tactic(auto, using(crate::proofs::Unanswered::table_reason, crate::proofs::Unanswered::link_reason))]
 pub fn answer(
     alloc: Global,
@@ -77,10 +76,10 @@ pub fn answer(
     ensures made { (trees : HtmlForest) (m : Matches) → rows_in tree.now ≡ rows_of trees →
         AreSelected question.now (page_of tree.now) m → IfOk result (λ output. finding_of output
         ≡ answer_of question.now m end.now trees (source_at tree.now) page.now) }
-    ensures fits { let rows = rows_in tree.now in
-        OnOk result (Fits (length page.now) rows (table_asked rows question.now)) }
-    ensures told { let rows = rows_in tree.now in IfErr result
-        (IsUnanswered (length page.now) rows (source_at tree.now) question.now) }
+    ensures fits { (m : Matches) → AreSelected question.now (page_of tree.now) m →
+        OnOk result (Fits (length page.now) (rows_in tree.now) question.now m) }
+    ensures told { IfErr result (IsUnanswered (length page.now) (page_of tree.now)
+        (source_at tree.now) question.now) }
 {
     match question {
         Question::Select(query) => Ok(selection(alloc, tree, query, end, page)?),

@@ -9,13 +9,14 @@ use crate::edit_words::patching;
 use crate::links::Links;
 use crate::patching::Patching;
 use crate::selected::{Selected, Wanted};
+use crate::tables::{Shape, Tables};
 use crate::task::Task;
 use crate::terminal::Terminal;
 use crate::texts::{TextForm, Texts};
 use clap::error::ErrorKind;
 use clap::{ArgMatches, Error};
 use std::alloc::{AllocError, Global};
-use tl_answers::{Hosts, Question, TableQuery};
+use tl_answers::{Hosts, Question};
 use tl_commands::{Verb, program};
 use tl_css::{Selector, SelectorError, parse};
 use tl_encoding::Encoding;
@@ -102,6 +103,8 @@ pub enum Action<'w> {
     Links(Links<'w>),
     /// What texts say.
     Text(Texts),
+    /// What tables say.
+    Tables(Tables),
     /// What is changed where a selector holds.
     Patch(Patching<'w>),
     /// Safe pages, by the lists of these texts.
@@ -367,32 +370,44 @@ fn texts<'w>(alloc: Global, matches: &ArgMatches<'w>) -> Result<Texts, UsageErro
     })
 }
 
-// Which table is meant, and how it is written.
-fn table<'w>(matches: &ArgMatches<'w>) -> Result<TableQuery, UsageError<'w>> {
-    let columns = if matches.get_flag("tsv") {
-        Columns::Tabs
+// How tables are written.
+fn table_shape(matches: &ArgMatches<'_>) -> Shape {
+    if matches.get_flag("json") {
+        Shape::Json
+    } else if matches.get_flag("jsonl") {
+        Shape::JsonOfFile
+    } else if matches.get_flag("tsv") {
+        Shape::Sheet(Columns::Tabs)
     } else {
-        Columns::Commas
-    };
+        Shape::Sheet(Columns::Commas)
+    }
+}
+
+// Which tables are meant, and how they are written.
+fn tables<'w>(alloc: Global, matches: &ArgMatches<'w>) -> Result<Tables, UsageError<'w>> {
     let spans = if matches.get_flag("as-written") {
         Spans::Once
     } else {
         Spans::Filled
     };
-    Ok(TableQuery {
+    Ok(Tables {
+        inside: selector_at(alloc, matches, "in")?,
         number: table_number(matches)?,
-        columns,
+        shape: table_shape(matches),
         spans,
     })
 }
 
-// Which table is meant, from 0.
-fn table_number<'w>(matches: &ArgMatches<'w>) -> Result<usize, UsageError<'w>> {
+// Which table is meant, from 0; all where none is.
+fn table_number<'w>(matches: &ArgMatches<'w>) -> Result<Option<usize>, UsageError<'w>> {
+    if matches.get_flag("all") {
+        return Ok(None);
+    }
     let Some(word) = matches.get_str("number") else {
-        return Ok(0);
+        return Ok(Some(0));
     };
     match word.parse::<u32>() {
-        Ok(number) if number > 0 => Ok(number as usize - 1),
+        Ok(number) if number > 0 => Ok(Some(number as usize - 1)),
         _ => Err(UsageError::NoTable(word)),
     }
 }
@@ -449,7 +464,7 @@ fn action_of<'w>(
         Verb::Select => return Ok(Action::Select(selected(alloc, matches)?)),
         Verb::Links => return Ok(Action::Links(links(alloc, matches)?)),
         Verb::Text => return Ok(Action::Text(texts(alloc, matches)?)),
-        Verb::Table => Question::Table(table(matches)?),
+        Verb::Table => return Ok(Action::Tables(tables(alloc, matches)?)),
         Verb::Print if matches.get_flag("pretty") => Question::PrettyPrint,
         Verb::Print => Question::Print,
         Verb::Outline => Question::Outline(matches.get_flag("number")),

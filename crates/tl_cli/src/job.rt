@@ -1,9 +1,10 @@
 //! What is done with each page.
 use crate::args::Pages;
 use crate::selected::Selected;
+use crate::tables::Tables;
 use crate::task::{Made, Task, Unmade, execute, told_page};
 use std::alloc::Global;
-use tl_answers::{Key, Output, Question};
+use tl_answers::{Key, Output};
 use tl_tree_extract::Columns;
 use tl_tree_safe::Policy;
 
@@ -14,6 +15,8 @@ pub enum Job<'j, 'w> {
     Task(&'j Task<'w>),
     /// What is selected, where these are its keys.
     Select(&'j Selected<'w>, &'j [Key<'j>]),
+    /// What tables say.
+    Tables(&'j Tables),
     /// It is made safe by a policy, and what goes is told.
     Removed(&'j Policy<'w>),
 }
@@ -32,6 +35,7 @@ impl Job<'_, '_> {
         match self {
             Job::Task(_) | Job::Removed(_) => false,
             Job::Select(selected, _) => selected.wanted.is_json(),
+            Job::Tables(tables) => tables.columns().is_none(),
         }
     }
 
@@ -39,7 +43,7 @@ impl Job<'_, '_> {
     pub fn columns(&self) -> Option<Columns> {
         match self {
             Job::Select(selected, _) => selected.wanted.columns(),
-            Job::Task(Task::Ask(Question::Table(table))) => Some(table.columns),
+            Job::Tables(tables) => tables.columns(),
             Job::Task(_) | Job::Removed(_) => None,
         }
     }
@@ -52,13 +56,12 @@ impl Job<'_, '_> {
         file: &str,
         text: &[u8],
     ) -> Result<Made, Unmade> {
-        match self {
-            Job::Task(task) => untold(alloc, execute(alloc, task, pages.end(), text)),
-            Job::Select(selected, keys) => {
-                let task = Task::Ask(selected.question(keys, file));
-                untold(alloc, execute(alloc, &task, pages.end(), text))
-            }
-            Job::Removed(policy) => told_page(alloc, policy, file, text),
-        }
+        let task = match self {
+            Job::Task(task) => return untold(alloc, execute(alloc, task, pages.end(), text)),
+            Job::Select(selected, keys) => Task::Ask(selected.question(keys, file)),
+            Job::Tables(tables) => Task::Ask(tables.question(file)),
+            Job::Removed(policy) => return told_page(alloc, policy, file, text),
+        };
+        untold(alloc, execute(alloc, &task, pages.end(), text))
     }
 }

@@ -24,6 +24,7 @@ mod patching;
 mod position;
 mod reports;
 mod selected;
+mod tables;
 mod task;
 mod telling;
 mod terminal;
@@ -94,6 +95,7 @@ fn act(rt: &HostRuntime, args: &Args<'_>) -> Result<u8, Failure> {
         Action::Select(selected) => select(rt, selected, &args.pages),
         Action::Links(links) => write_links(rt, links, &args.pages),
         Action::Text(texts) => process(rt, &Task::Ask(texts.question()), &args.pages),
+        Action::Tables(tables) => process_pages(rt, &Job::Tables(tables), &args.pages),
         Action::Patch(patching) => patch_pages(rt, patching, &args.pages),
         Action::Safe(texts) => sanitize(rt, texts, &args.pages),
         Action::Removed(texts) => sanitize_telling(rt, texts, &args.pages),

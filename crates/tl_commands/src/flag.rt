@@ -119,14 +119,6 @@ const COMMENTS: Flag = Flag {
     excludes: &["whitespace", "not"],
 };
 
-pub static TABLE_NUMBER: Flag = Flag {
-    name: "number",
-    short: Some('n'),
-    value: Some("N"),
-    help: "The Nth table of each page (default: the first)",
-    excludes: &[],
-};
-
 const TSV: Flag = Flag {
     name: "tsv",
     short: None,
@@ -156,13 +148,48 @@ pub static WHERE: Flag = Flag {
 // How values of nodes are told apart.
 pub static COLUMNS: [Flag; 2] = [TSV, CSV];
 
-// How a table is written.
-pub static TABLE_FLAGS: [Flag; 2] = [
+// Which tables are written, and how.
+pub static TABLE_FLAGS: [Flag; 7] = [
+    Flag {
+        name: "in",
+        short: None,
+        value: Some("SELECTOR"),
+        help: "Only tables that match, or are inside a match",
+        excludes: &[],
+    },
+    Flag {
+        name: "number",
+        short: Some('n'),
+        value: Some("N"),
+        help: "The Nth table of each page (default: the first)",
+        excludes: &["all"],
+    },
+    Flag {
+        name: "all",
+        short: None,
+        value: None,
+        help: "All tables, with an empty line between two",
+        excludes: &[],
+    },
     Flag {
         name: "tsv",
         short: None,
         value: None,
         help: "Columns separated by tabs, not by commas",
+        excludes: &["json", "jsonl"],
+    },
+    Flag {
+        name: "json",
+        short: None,
+        value: None,
+        help: "Each table on a line, as an array of rows",
+        excludes: &["jsonl"],
+    },
+    Flag {
+        name: "jsonl",
+        short: None,
+        value: None,
+        help: "The same, as an object with its file",
         excludes: &[],
     },
     Flag {

@@ -64,10 +64,15 @@ Example:
 pub const TABLES: &str = "\
 Example:
   tl table --number 2 index.html          the second table of a page
+  tl table --in '#prices' index.html      the first table in an element
+  tl table --all --json index.html        each table on a line of JSON
 
 A line for each row, with a value for each column: the words of the cell there.
 A cell that spans several rows or columns is repeated in each, but with
---as-written. A table inside a cell is part of the cell's words.";
+--as-written. A table inside a cell is part of the cell's words.
+
+With --json a table is an array of rows, each an array of strings; with --jsonl
+an object with its file and these rows.";
 
 pub const PRINTS: &str = "\
 Example:

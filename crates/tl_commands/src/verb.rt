@@ -3,7 +3,7 @@ use crate::element::ElementVerb;
 use crate::flag::{
     ATTRIBUTE, BASE, BASES, COLUMNS, DECODING, ENCODING, FILE_NAMES, Flag, HOSTS, LEFT_OUT,
     LINK_KEY, LISTS, LITERAL, NODE_FLAGS, NODE_NUMBERS, POLICIES, PRETTY, REPLACE, REWRITES,
-    SEARCH, SELECTION, TABLE_FLAGS, TABLE_NUMBER, TARGETS, TELLINGS, TEXT, TEXT_FLAGS, TREE, WHERE,
+    SEARCH, SELECTION, TABLE_FLAGS, TARGETS, TELLINGS, TEXT, TEXT_FLAGS, TREE, WHERE,
 };
 use crate::help::{
     ABOUT, LINKS, OUTLINES, PRINTS, PROGRAM, SAFE, SELECTORS, SETTINGS, TABLES, TEXTS, UNSETTINGS,
@@ -105,7 +105,7 @@ impl Verb {
             Verb::Select => "Print each element that matches, in document order",
             Verb::Links => "Print the links of the page",
             Verb::Text => "Print the text of the page, without tags and comments",
-            Verb::Table => "Print a table as CSV",
+            Verb::Table => "Print tables as CSV or JSON",
             Verb::Print => "Print the page as browsers read it, serialized",
             Verb::Outline => "Print the page as a tree, a line for each node",
             Verb::Set => "Set an attribute of matching elements",
@@ -154,7 +154,7 @@ impl Verb {
             Verb::Select => select(alloc, self.bare_command(alloc)),
             Verb::Links => links(alloc, self.reading_command(alloc)?),
             Verb::Text => text(alloc, self.reading_command(alloc)?),
-            Verb::Table => table(alloc, self.reading_command(alloc)?),
+            Verb::Table => with_flags(alloc, self.reading_command(alloc)?, &TABLE_FLAGS),
             Verb::Print => self.reading_command(alloc)?.arg(PRETTY.argument(alloc)?),
             Verb::Outline => outline(alloc, self.reading_command(alloc)?),
             Verb::Set => set(alloc, self.bare_command(alloc)),
@@ -201,11 +201,6 @@ fn links<'w>(alloc: Global, command: Command<'w>) -> Result<Command<'w>, AllocEr
         command = command.arg(flag.argument(alloc)?.requires_arg("base")?)?;
     }
     Ok(command)
-}
-
-fn table<'w>(alloc: Global, command: Command<'w>) -> Result<Command<'w>, AllocError> {
-    let command = command.arg(TABLE_NUMBER.argument(alloc)?)?;
-    with_flags(alloc, command, &TABLE_FLAGS)
 }
 
 fn text<'w>(alloc: Global, command: Command<'w>) -> Result<Command<'w>, AllocError> {

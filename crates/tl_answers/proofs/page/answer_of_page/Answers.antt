@@ -17,9 +17,9 @@ returns-clause-made c = λ m selected.
     let same : page_of tree ≡ searched page = page_is page tree rows c.in_ok-tree.ensures.quirks in
     let asked : AreSelected question (page_of tree) m = subst (λ (p : Page). AreSelected question p m) (sym same) selected in
     answered page tree rows question m c.args.end.now c.answer.result c.in_ok-tree.ensures.in_proportion c.in_ok-tree.ensures.sources
-    (c.answer.ensures.made (html_tree page).trees m rows asked) c.answer.ensures.fits
+    (c.answer.ensures.made (html_tree page).trees m rows asked) (c.answer.ensures.fits m asked)
 
 pub returns-clause-told : goal.returns-clause-told
 returns-clause-told c =
-    refused c.args.page.now c.in_ok-tree.tree c.in_ok-tree.ensures.tree c.args.question.now c.answer.result c.in_ok-tree.ensures.in_proportion
+    refused c.args.page.now c.in_ok-tree.tree c.in_ok-tree.ensures.tree c.args.question.now c.answer.result c.in_ok-tree.ensures.quirks c.in_ok-tree.ensures.in_proportion
     c.in_ok-tree.ensures.sources c.answer.ensures.told
