@@ -642,3 +642,23 @@ Pages that people have: each says its encoding otherwise, or none.
   Größe 日本
   $ printf '<html><head><title>Gr\366\337e caf\351</title></head><body><p class=x>Gr\366\337e caf\351</p></body></html>' | tl select -t p
   Gr��e caf�
+
+A diff has the lines of the file, in its own bytes, so that `patch` takes it.
+
+  $ printf '<meta charset=latin1>\n<p>caf\351\n<b>x\n' >latin.html
+  $ tl set p k v --diff latin.html
+  --- latin.html
+  +++ latin.html
+  @@ -1,3 +1,3 @@
+   <meta charset=latin1>
+  -<p>caf\xe9 (esc)
+  +<p k="v">caf\xe9 (esc)
+   <b>x
+  $ printf '<p>a\377\n<b>x\n' >wrong.html
+  $ tl set b k v --diff wrong.html
+  --- wrong.html
+  +++ wrong.html
+  @@ -1,2 +1,2 @@
+   <p>a\xff (esc)
+  -<b>x
+  +<b k="v">x

@@ -80,8 +80,39 @@ impl From<AllocError> for Uneditable {
 pub struct Editable {
     pub encoding: Encoding,
     pub text: String,
+    /// Its bytes, where they aren't those of its text, but for UTF-16, in which a line feed is no
+    /// byte.
+    own: Option<Vec<u8>>,
     /// The text with a mark for each byte that is wrong, of a page in UTF-8 that has some.
     pub marked: Option<String>,
+}
+
+impl Editable {
+    /// Its lines as its file has them; of UTF-16 those of its text.
+    pub fn lines(&self) -> &[u8] {
+        match &self.own {
+            Some(own) => own.as_slice(),
+            None => self.text.as_bytes(),
+        }
+    }
+
+    /// Those of the same page with changes, which has this text and these bytes.
+    pub fn lines_of<'b>(&self, text: &'b [u8], bytes: &'b [u8]) -> &'b [u8] {
+        if self.own.is_some() { bytes } else { text }
+    }
+}
+
+// The bytes of a page, where they aren't those of its text and their lines are its own.
+fn own_lines(
+    alloc: Global,
+    encoding: Encoding,
+    page: &[u8],
+) -> Result<Option<Vec<u8>>, AllocError> {
+    match encoding {
+        Encoding::Utf8 if std::str::from_utf8(page).is_ok() => Ok(None),
+        Encoding::Utf16(_) => Ok(None),
+        _ => Ok(Some(Vec::from_slice(alloc, page)?)),
+    }
 }
 
 // Whether a page's bytes can be changed where its text is. Of encodings of several bytes only those
@@ -117,12 +148,14 @@ pub fn to_be_edited(
     if !can_change(encoding, &page) {
         return Err(Uneditable::NotChanged(encoding));
     }
+    let own = own_lines(alloc, encoding, &page)?;
     let marked = marked_text(alloc, pages, encoding, &page)?;
     if marked.is_some() {
         let text = decode(alloc, page, encoding)?;
         return Ok(Editable {
             encoding,
             text,
+            own,
             marked,
         });
     }
@@ -130,6 +163,7 @@ pub fn to_be_edited(
         Ok(text) => Ok(Editable {
             encoding,
             text,
+            own,
             marked,
         }),
         Err(DecodeError::OutOfMemory) => Err(Uneditable::OutOfMemory),

@@ -111,7 +111,7 @@ fn write_file(
     }
 }
 
-// Writes what changes in the text of a page, and puts it into its file where that is asked.
+// Writes which lines of a page change, and puts it into its file where that is asked.
 fn put_diff(
     rt: &HostRuntime,
     target: &Target<'_>,
@@ -120,8 +120,8 @@ fn put_diff(
     patched: &Patched,
     bytes: &[u8],
 ) -> Result<Answer, AllocError> {
-    let own = page.text.as_bytes();
-    let diff = unified(rt.alloc(), file, own, patched.bytes.as_slice())?;
+    let new = page.lines_of(patched.bytes.as_slice(), bytes);
+    let diff = unified(rt.alloc(), file, page.lines(), new)?;
     let answer = match target {
         Target::Files(suffix) => write_file(rt, file, *suffix, page, patched, bytes),
         Target::Output | Target::Nowhere if patched.places.is_empty() => Answer::Nothing,
