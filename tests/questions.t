@@ -465,17 +465,15 @@ All tables, those in some elements, and tables as JSON.
   $ printf '<table></table><table><tr></table><table><tr><td rowspan=2>\303\251\001<td>\n\\<tr></table>' | tl table --json --all
   []
   [[]]
-  [["\xc3\xa9\u0001","\\"],["\xc3\xa9\u0001",""]] (esc)
-  $ tl table --json --tsv tables
-  error: the argument '--tsv' cannot be used with '--json' (err)
-  ...
-  [2]
-  $ tl table --all -n 1 tables
-  error: the argument '--number <N>' cannot be used with '--all' (err)
-  ...
-  [2]
+  [["é\u0001","\\"],["é\u0001",""]]
+  $ tl table --json --tsv tables 2>&1 | head -1
+  error: the argument '--json' cannot be used with '--tsv'
+  $ tl table --json --jsonl tables 2>&1 | head -1
+  error: the argument '--json' cannot be used with '--jsonl'
+  $ tl table --all -n 1 tables 2>&1 | head -1
+  error: the argument '--all' cannot be used with '--number <N>'
   $ tl table --in 'b[' tables
-  tl: invalid selector: at byte 2: a name is missing (err)
+  tl: invalid selector: at byte 2: expected a name (err)
     b[ (err)
       ^ (err)
   [2]
