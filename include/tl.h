@@ -26,7 +26,8 @@
  *             before the sibling behind it. Node 0 is the first at the top.
  * Memory      A call keeps no pointer. The calls with a page give back all memory that they took before they return; a document
  *             keeps its own until `tl_free`.
- * Threads     There is no state between calls with a page: any number of threads may call at once. Threads take turns with a document.
+ * Threads     There is no state between calls with a page: any number of threads may call at once. Threads take turns with a document, or each
+ *             asks by a reader of its own (`tl_reader_of`).
  *
  * What a caller owes, and nothing checks:
  *   - each pointer is not null, also where its length is 0, and leads to as many items as its length says, for writing where it isn't
@@ -36,7 +37,7 @@
  *     read (what is read may overlap), and no other thread writes to what the call is lent, or reads what it writes, until the call
  *     returns;
  *   - a `tl_document` is TL_NO_DOCUMENT before its first call, and after that only these calls write it. It may be moved, and isn't
- *     copied: of two copies that are freed the second frees memory again that is no longer the document's;
+ *     copied but by `tl_reader_of`: of two copies that are freed the second frees memory again that is no longer the document's;
  *   - one call at a time uses a document, and where another thread calls next, a lock or the like stands between. Calls that only ask
  *     write to it too: while they last it is TL_NO_DOCUMENT. So no call takes a `const tl_document *`;
  *   - no call comes from a signal handler, or from the forked child of a process with threads.
@@ -301,6 +302,13 @@ tl_status tl_parse_html(const uint8_t *page, size_t page_len, tl_document *docum
 
 /* Gives a document's memory back, and leaves TL_NO_DOCUMENT there. On TL_NO_DOCUMENT, so when called again, it does nothing. */
 void tl_free(tl_document *document);
+
+/* A document of its own for a thread that asks this one while other threads do: it leads to the same nodes. No call but those that only
+ * ask takes it, `tl_free` isn't called on it, and nobody asks by it once the document is freed or reads another page. Calls that ask
+ * write to nothing that readers share: `./x bindings --threads` has the thread sanitizer look at them; it is not proved. */
+static inline tl_document tl_reader_of(const tl_document *document) {
+    return *document;
+}
 
 /* How many nodes there are: their numbers are those below it. Without a document 0. It takes no memory. */
 uint32_t tl_node_count(tl_document *document);

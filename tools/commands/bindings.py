@@ -3,6 +3,7 @@
     ./x bindings              of the library that ./x library makes
     ./x bindings --over-ci    the same right after `rt ci`, as ./x library says; --unproved tries one that isn't proved
     ./x bindings FOLDER       of what ./x library --install put into FOLDER, as a release has it
+    ./x bindings --threads    threads that ask one document, looked at by the thread sanitizer: of a library that isn't proved, in minutes
 
 The callers stand in bindings, and each function of the headers in include is called. The programs of docs/LIBRARY.md are built and run
 too, as they stand there. What was left out, where a compiler or a module isn't there, is said at the end; without cc nothing is
@@ -16,6 +17,7 @@ import shutil
 import tempfile
 import zipfile
 
+from .. import unproved_library
 from ..packages import has_modules, make_wheel, python_for_wheels
 from ..running import must, run
 from ..workspace import ROOT, Stop, Workspace, put, text_of
@@ -225,9 +227,28 @@ def check(folder=None, over_ci=False, unproved=False):
     return True
 
 
+def check_threads():
+    """Has threads ask one document, and the thread sanitizer look at what they and the library read and write."""
+    workspace, caller = Workspace(), f"{ROOT}/bindings/c/threads/readers.c"
+    with tempfile.TemporaryDirectory(prefix="x-bindings-") as room:
+        watched = unproved_library.build_watched(workspace, "tl_c", room)
+        # (the sanitizer of GCC looks at these calls by their own names)
+        must(["objcopy", *(f"--redefine-sym=__tsan_{it}={it}" for it in ("memcpy", "memmove", "memset")), watched], "no objcopy")
+        heap = ["--whole-archive", f"{workspace.kit}/c/liblibc_c.a"]
+        must(["ld", "-r", watched, *heap, "-o", f"{room}/libtl.o"], "the library is not joined with the heap")
+        words = ["cc", "-g", "-O1", "-fsanitize=thread", "-std=c11", "-Wall", "-Wextra", "-Werror", "-pedantic", "-I", f"{ROOT}/include"]
+        must([*words, caller, f"{room}/libtl.o", "-lpthread", "-o", f"{room}/readers"], f"{caller} does not compile")
+        must([f"{room}/readers"], f"{caller} failed")
+    print("bindings: threads asked one document, by turns and all at once", flush=True)
+
+
 def main(parser, words):
     library.add_builds(parser)
+    parser.add_argument("--threads", action="store_true")
     parser.add_argument("folder", nargs="?", metavar="FOLDER")
     given = parser.parse_args(words)
+    if given.threads:
+        check_threads()
+        return 0
     check(given.folder, given.over_ci, given.unproved)
     return 0
