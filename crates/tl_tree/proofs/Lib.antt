@@ -66,6 +66,7 @@ pub mod Turned
 pub mod Placed
 pub mod Cloned
 pub mod Dispatched
+pub mod IgnoredTags
 pub mod Reopened
 pub mod PendingBytes
 pub mod RunBytes

@@ -1,6 +1,6 @@
 //! The adoption agency algorithm (13.2.6.4.7), on the path and the list of active formatting
 //! elements.
-ghost use Rattle.std.specs.Prelude.{IfOk, List, OnOk, false, length, reverse, take, ℕ, ◌+◌, ◌<◌, ◌^◌, ◌≡◌, ◌≤◌};
+ghost use Rattle.std.specs.Prelude.{Bool, IfOk, List, OnOk, false, length, reverse, take, ℕ, ◌+◌, ◌<◌, ◌^◌, ◌≡◌, ◌≤◌};
 ghost use Rattle.tl_dom_spec.specs.Adoption.{cloned, entry_moved, inside_of};
 ghost use Rattle.tl_dom_spec.specs.Path as dom;
 ghost use Rattle.tl_dom_spec.specs.Path.{elements};
@@ -169,22 +169,21 @@ fn list_new(
 }
 
 // A round where the formatting element stands right inside of a place, and the block right inside
-// of it: nothing is made anew, and no frame is moved.
+// of it: nothing is made anew, no frame is moved, and the block isn't foster parented.
 fn adopt_near(
     path: &mut FramePath<'_>,
     active: &mut ActiveList,
     own: Listed,
     place: usize,
 ) -> Result<usize, GrowError>
-    requires near { IsNear false own.number (frame_at path.old place)
-        (frame_at path.old (place + 1)) }
     requires within { place + 2 < length path.old.frames.items }
     requires numbered { active.old.greatest_number < path.old.next }
     requires listed { active.old.greatest_tag < length path.old.store.tags.items }
     requires own { own.tag < length path.old.store.tags.items }
     requires tallied { IsTallied path.old.store active.old }
-    ensures ok { IfOk result (λ made.
-        IsAdopted false (listed_of path.old.store own) (frame_at path.old (place + 2))
+    ensures ok { IfOk result (λ made. (is_fostering : Bool) →
+        IsNear is_fostering own.number (frame_at path.old place) (frame_at path.old (place + 1)) →
+        IsAdopted is_fostering (listed_of path.old.store own) (frame_at path.old (place + 2))
         (clones_in (listed_of path.old.store own) (frame_at path.old (place + 2))
         (path_of path.old) (active_of path.old.store active.old) path.old.next)
         path.old path.new active.new made) }

@@ -49,6 +49,7 @@ mod group;
 mod head;
 mod head_ends;
 mod held;
+mod ignored;
 mod in_body;
 mod in_body_end;
 mod in_body_start;

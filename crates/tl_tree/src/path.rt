@@ -63,10 +63,11 @@ impl Drop for FramePath<'_> {
 
 impl<'a> FramePath<'a> {
     ghost use Rattle.std.specs.List.{list_any};
-    ghost use Rattle.std.specs.Prelude.{IfOk, IfSome, None, OnOk, Some, [], false, reverse, slice_get, slice_index_or, slice_set, take, true, ◌+◌, ◌-◌, ◌^◌, ◌∷◌, ◌≡◌, ◌≤◌};
+    ghost use Rattle.std.specs.Prelude.{IfOk, IfSome, None, OnOk, Some, [], false, reverse, slice_get, slice_index_or, slice_set, take, true, ◌&&◌, ◌+◌, ◌-◌, ◌^◌, ◌∷◌, ◌≡◌, ◌≤◌};
     ghost use Rattle.tl_dom_spec.specs.Path.{and_element, at_number, behind, caught_up, document, elements, foster_place, has_open, has_within, here, implied_closed, into, is_open_number, joined, new_frame, no_nodes, place_in, popped, popped_through, popped_to, popped_while, put, settled_at, taken_out, top, top_settled, with_nodes, with_waiting, within, at_head, into_head};
     ghost use Rattle.tl_dom_spec.specs.Builder.{pushed_at};
     ghost use Rattle.tl_dom_spec.specs.Path as dom;
+    ghost use Rattle.tl_dom_spec.specs.Tags.{is_foster_target};
     ghost use Rattle.tl_tree.specs.Inner.Framed.{is_numbered, numbers};
     ghost use Rattle.tl_tree.specs.Inner.Frames.{changed, children_of, closed, fostered, frame_of, frames_of, is_frame, path_of, place_of, sought, test_of, test_or_other, with_late};
     ghost use Rattle.tl_tree.specs.Inner.Tests.{tag_test_of};
@@ -957,13 +958,23 @@ impl<'a> FramePath<'a> {
         Place::Behind(1)
     }
 
+    /// Whether what goes into a frame is foster parented.
+    #[inline(always)]
+    pub(crate) fn is_fostered(&self, frame: Frame, is_fostering: bool) -> bool
+        requires { IsTrue (is_frame self.now frame) }
+        ensures { result
+            ≡ (is_fostering && is_foster_target (frame_of self.now.store frame).tag) }
+    {
+        let targets = Test::Tag(TagTest::Any(Names::FosterTargets));
+        is_fostering && targets.passes(&self.store, frame)
+    }
+
     /// Where a node goes: here, or where it is foster parented.
     #[inline(always)]
     pub(crate) fn place_in(&self, is_fostering: bool) -> Place
         ensures { place_of result ≡ place_in is_fostering (path_of self.now) }
     {
-        let targets = Test::Tag(TagTest::Any(Names::FosterTargets));
-        if is_fostering && targets.passes(&self.store, self.top()) {
+        if self.is_fostered(self.top(), is_fostering) {
             self.foster_place()
         } else {
             Place::Here

@@ -172,7 +172,7 @@ impl<'a> FramePath<'a> {
     }
 
     /// The place of the common ancestor, where the formatting element stands right inside of it and
-    /// goes there, and the block right inside of that.
+    /// goes there, the block right inside of that, and what goes there isn't foster parented.
     pub(crate) fn near_ancestor(
         &self,
         block: usize,
@@ -185,9 +185,6 @@ impl<'a> FramePath<'a> {
             (frame_at self.now (place + 1))) }
         ensures within { IfSome result (λ place. block ≡ place + 2) }
     {
-        if is_fostering {
-            return None;
-        }
         if block < 2 {
             return None;
         }
@@ -200,6 +197,9 @@ impl<'a> FramePath<'a> {
             return None;
         }
         let around = self.frames[place];
+        if self.is_fostered(around, is_fostering) {
+            return None;
+        }
         if around.is_open { Some(place) } else { None }
     }
 

@@ -33,7 +33,7 @@ use tl_html_tokens::{Mode, TokenKind};
 use tl_names::element_name::ElementName;
 
 impl<'a> Builder<'a> {
-    /// Takes a start tag of the page.
+    /// Takes a start tag of the page. One that is ignored stands for any other of its group.
     #[inline(always)]
     pub(crate) fn take_start_tag(
         &mut self,
@@ -49,13 +49,14 @@ impl<'a> Builder<'a> {
             (start_said self.old.path.store.page.now attributes.now tag)) }
         ensures page { (token_of self.new).page ≡ (token_of self.old).page }
     {
+        let closes = tag.closes;
+        if let Some(group) = self.ignored_group(tag.name) {
+            return self.take_token(Token::Start { group, closes });
+        }
         let number = self.add_start_tag(alloc, room, tag.name, attributes)?;
         self.set_tag(number);
         let group = self.held_group();
-        self.take_token(Token::Start {
-            group,
-            closes: tag.closes,
-        })
+        self.take_token(Token::Start { group, closes })
     }
 
     pub(crate) fn take_comment(

@@ -5,7 +5,7 @@ use Rattle.tl_dom_spec.specs.Adoption.{Clones, cloned, entry_moved, first, insid
 use Rattle.tl_dom_spec.specs.Builder.{Entry}
 use Rattle.tl_dom_spec.specs.Formatting.{Listed}
 use Rattle.tl_dom_spec.specs.Path.{Frame, Nodes, Path, Place, caught_up, document, elements, here, new_frame, no_nodes, node_of, on_top, place_in, with_nodes}
-use Rattle.tl_dom_spec.specs.Tags.{Tag}
+use Rattle.tl_dom_spec.specs.Tags.{Tag, is_foster_target}
 use Rattle.tl_tree.specs.Inner.Active.{active_of}
 use Rattle.tl_tree.specs.Inner.Frames.{changed, frames_of, path_of}
 use Rattle.tl_tree.specs.declared.active.ActiveList.{ActiveList}
@@ -77,9 +77,10 @@ renewed_near place number tag own frames =
     take (suc place) (changed place (settled_in (node_of own)) frames)
     ++ renewed number tag (drop (suc (suc place)) frames)
 
--- the formatting element goes to what is right outside of it, and no node is foster parented
+-- the formatting element goes to what is right outside of it, and what goes there isn't foster
+-- parented
 pub record IsNear (is_fostering : Bool) (k : ℕ) (outside own : Frame) : Type 0 where
-  pub fosters : is_fostering ≡ false
+  pub fosters : (is_fostering && is_foster_target outside.tag) ≡ false
   pub number : own.number ≡ k
   pub goes : own.place ≡ here
   pub around : outside.is_open ≡ true

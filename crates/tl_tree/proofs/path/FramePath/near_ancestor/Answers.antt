@@ -1,5 +1,7 @@
-use Rattle.std.proofs.Common.{ap, arith, length, ◌+◌, ◌-◌, ◌<◌, ◌≡◌, ◌∙◌}
+use Rattle.std.proofs.Common.{ap, arith, length, sym, ◌&&◌, ◌+◌, ◌-◌, ◌<◌, ◌≡◌, ◌∙◌}
 use Rattle.tl_dom_spec.specs.Path as dom
+use Rattle.tl_dom_spec.specs.Tags.{is_foster_target}
+use Rattle.tl_tree.proofs.FrameParts as parts
 use Rattle.tl_tree.proofs.Furthest.{frame-there}
 use Rattle.tl_tree.proofs.path.FramePath.near_ancestor.Goals as goal
 
@@ -15,8 +17,18 @@ returns-then-around-clause-near c =
     let outer = frame-there p n around c.index-around.ensures outside in
     let same : own.number ≡ c.args.number = omega arith in
     record {
-      fosters = c.if-is_fostering.false;
+      fosters =
+          ap (λ (f : dom.Frame). c.args.is_fostering && is_foster_target f.tag) outer
+          ∙ (sym c.is_fostered.ensures ∙ c.if-is_fostered.false);
       number = ap (λ (f : dom.Frame). f.number) there ∙ same;
       goes = ap (λ (f : dom.Frame). f.place) there ∙ c.is_here.ensures.yes c.if-not-is_here.false;
       around = ap (λ (f : dom.Frame). f.is_open) outer ∙ c.if-around.true;
     }
+
+pub is_fostered-requires : goal.is_fostered-requires
+is_fostered-requires c =
+    let p = c.args.self.now in
+    let n = c.args.block - 2 in
+    let around = c.index-around.result.now in
+    let outside : n < length p.frames.items = omega arith in
+    parts.frame-there p n around c.index-around.ensures outside
