@@ -615,7 +615,7 @@ as the same tree by it. A page with bytes that are wrong isn't changed.
   tl: -: invalid byte sequence at byte 8; --encoding names the encoding (err)
   [2]
   $ printf '<p>\377' | tl set --strict p k v
-  tl: -: no UTF-8 at byte 3; --encoding names the encoding (err)
+  tl: -: invalid UTF-8 at byte 3; --encoding names the encoding (err)
   [2]
 
 Pages that people have: each says its encoding otherwise, or none.

@@ -13,6 +13,7 @@ use Rattle.tl_dom_spec.specs.HtmlTree.{html_tree}
 use Rattle.tl_tree.specs.Rows.{Row}
 use Rattle.tl_tree.specs.TreeView.{rows_in}
 use Rattle.tl_tree.specs.declared.tree.Tree.{Tree}
+use Rattle.tl_tree_edit.specs.Operations.{IsMade, Operation}
 use Rattle.tl_tree_edit.specs.declared.error.MadeError.{MadeError}
 use Rattle.tl_tree_edit.specs.declared.error.MadeError.TheVariants as made
 use Rattle.tl_tree_select.specs.Meaning.{AreFound}
@@ -44,3 +45,9 @@ pub meant_of_page : (own : Edit) (e : Css) (page text : List ℕ) (tree : Tree) 
     IsToldBy own e (page_of tree) text m → IsMeant own e page text m
 meant_of_page own e page text tree m rows quirks h =
     subst (λ (p : Page). IsToldBy own e p text m) (page_is page tree rows quirks) h
+
+-- whether an operation is made, by another word for it
+pub made_as : (old : List Row) (q : Bool) (numbers : List ℕ) (new : List Row) (r : Result Bool MadeError) (own said : Operation) → own ≡ said →
+    IfOk r (λ (is : Bool). IsTrue is ↔ IsMade old q numbers own new) → IfOk r (λ (is : Bool). IsTrue is ↔ IsMade old q numbers said new)
+made_as old q numbers new r own said same made =
+    subst (λ (o : Operation). IfOk r (λ (is : Bool). IsTrue is ↔ IsMade old q numbers o new)) same made

@@ -8,8 +8,9 @@ ghost use Rattle.tl_tree.specs.Asked.{namespace_of, node_at};
 ghost use Rattle.tl_tree_select.specs.Page.{page_of};
 ghost use Rattle.tl_tree.specs.TreeView.{rows_in};
 ghost use Rattle.tl_patch_edit.specs.View.{content_view, patch_view};
-ghost use Rattle.tl_tree_edit.specs.Changes.{edited};
+ghost use Rattle.tl_tree_edit.specs.Changes.{Rename, Set, Unset, edited};
 ghost use Rattle.tl_tree_edit.specs.Events.{events};
+ghost use Rattle.tl_tree_edit.specs.Operations.{changes_each};
 ghost use Rattle.tl_tree_edit.specs.View.{edits_of, operation_of as operation_in};
 ghost use Rattle.tl_tree_edit.specs.declared.error.MadeError.TheVariants.{OutOfMemory as NoMemory};
 ghost use Rattle.tl_values.specs.NewValues.{got};
@@ -75,6 +76,27 @@ fn patch_operation<'w>(patch: ElementPatch<'w>) -> Operation<'w, 'w>
         ElementPatch::PutBefore { content } => put_operation(Position::Before, content),
         ElementPatch::PutAfter { content } => put_operation(Position::After, content),
     }
+}
+
+// A value at a key.
+fn set_operation<'w>(key: &'w str, value: &'w str) -> Operation<'w, 'w>
+    ensures { operation_in result ≡ changes_each (Set key.now value.now) }
+{
+    Operation::Each(Change::Set(key.as_bytes(), value.as_bytes()))
+}
+
+// No value at a key.
+fn unset_operation<'w>(key: &'w str) -> Operation<'w, 'w>
+    ensures { operation_in result ≡ changes_each (Unset key.now) }
+{
+    Operation::Each(Change::Unset(key.as_bytes()))
+}
+
+// Another name.
+fn rename_operation<'w>(name: &'w str) -> Operation<'w, 'w>
+    ensures { operation_in result ≡ changes_each (Rename name.now) }
+{
+    Operation::Each(Change::Rename(name.as_bytes()))
 }
 
 // Whether a node is an element of HTML.
@@ -166,21 +188,24 @@ impl<'w> Edit<'w> {
             (IsUnknown self.now (rows_in old.now) old.now.is_quirks numbers.now) }
     {
         match self {
-            Edit::Set(key, value) => {
-                let change = Change::Set(key.as_bytes(), value.as_bytes());
-                is_made(alloc, old, numbers, Operation::Each(change), new)
-            }
+            Edit::Set(key, value) => is_made(
+                alloc,
+                old,
+                numbers,
+                set_operation(key.as_str(), *value),
+                new,
+            ),
             Edit::Rewrite(key, rewrite) => {
                 has_values(alloc, old, numbers, key.as_bytes(), rewrite, new)
             }
-            Edit::Unset(key) => {
-                let change = Change::Unset(key.as_bytes());
-                is_made(alloc, old, numbers, Operation::Each(change), new)
-            }
-            Edit::Rename(name) => {
-                let change = Change::Rename(name.as_bytes());
-                is_made(alloc, old, numbers, Operation::Each(change), new)
-            }
+            Edit::Unset(key) => is_made(alloc, old, numbers, unset_operation(key.as_str()), new),
+            Edit::Rename(name) => is_made(
+                alloc,
+                old,
+                numbers,
+                rename_operation(name.as_str()),
+                new,
+            ),
             Edit::Element(patch) => is_made(alloc, old, numbers, patch_operation(*patch), new),
         }
     }
