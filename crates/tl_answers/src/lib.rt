@@ -5,6 +5,7 @@ mod document;
 mod edit;
 mod edited;
 mod error;
+pub mod examples;
 mod field;
 mod left_out;
 mod lines;
