@@ -1,6 +1,6 @@
 -- What follows in one tree as another one says it, piece after piece.
 use Rattle.std.proofs.Common.{Bool, List, [], Err, IfOk, Ok, Result, ap, drop, false, map, subst, sym, true, ℕ, ◌+◌, ◌≢◌, ◌++◌, ◌≡◌, ◌↔◌, ◌∙◌, ◌∷◌}
-use Rattle.std.proofs.lemmas.List.{append-nil, append_assoc}
+use Rattle.std.proofs.lemmas.List.{append-nil, append_assoc, append_cancel_left}
 use Rattle.std.proofs.lemmas.Option.{none-some}
 use Rattle.std.specs.Prelude.{slice_get}
 use Rattle.tl_tree_edit.specs.Events.{Event, says}
@@ -37,6 +37,22 @@ cons-not-nil x xs e = none-some x (sym (ap (λ (ys : List _). slice_get ys 0) e)
 -- the same piece under another name
 pub renamed : (a b l m : List Event) (is : Bool) → a ≡ b → Follows a [] l m is → Follows b [] l m is
 renamed a b l m is same h = subst (λ (x : List Event). Follows x [] l m is) same h
+
+-- a piece that stands before what is left
+pub passed : (a l m : List Event) → l ≡ a ++ m → Follows a [] l m true
+passed a l m e = λ rest. (λ h. append_cancel_left a m rest (sym e ∙ h), λ h. e ∙ ap (λ x. a ++ x) h)
+
+-- Texts
+
+-- the first byte comes next, and the rest behind it
+pub text_begun : (text more : List ℕ) (b : ℕ) (l m n : List Event) (is : Bool) → text ≡ b ∷ more → Follows (says b ∷ []) [] l m true → Follows (map says more) [] m n is → Follows (map says text) [] l n is
+text_begun text more b l m n is e h g =
+    renamed (says b ∷ map says more) (map says text) l n is (sym (ap (map says) e)) (both (says b ∷ []) (map says more) l m n is h g)
+
+-- it doesn't
+pub text_not_begun : (text more : List ℕ) (b : ℕ) (l m n : List Event) → text ≡ b ∷ more → Follows (says b ∷ []) [] l m false → Follows (map says text) [] l n false
+text_not_begun text more b l m n e h =
+    renamed (says b ∷ map says more) (map says text) l n false (sym (ap (map says) e)) (not_both (says b ∷ []) (map says more) l m n h)
 
 -- Results
 

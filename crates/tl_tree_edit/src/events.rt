@@ -1,11 +1,11 @@
 //! A tree read in the order of its page, event by event.
 ghost use Rattle.std.specs.Bool.{IsTrue};
 ghost use Rattle.std.specs.Option.{option_map};
-ghost use Rattle.std.specs.Prelude.{IfOk, MatchOption, OnOk, Some, [], false, length, ◌+◌, ◌<◌, ◌∷◌, ◌≡◌, ◌≢◌, ◌↔◌};
+ghost use Rattle.std.specs.Prelude.{IfOk, MatchOption, OnOk, Some, [], false, length, map, ◌+◌, ◌++◌, ◌<◌, ◌∷◌, ◌≡◌, ◌≢◌, ◌↔◌};
 ghost use Rattle.tl_tree.specs.Asked.{kind_of, node_at};
 ghost use Rattle.tl_tree.specs.TreeView.{rows_in};
 ghost use Rattle.tl_tree.specs.declared.kind.Kind.TheVariants.{Text};
-ghost use Rattle.tl_tree_edit.specs.Events.{ends, events, is_past};
+ghost use Rattle.tl_tree_edit.specs.Events.{ends, events, is_past, says};
 ghost use Rattle.tl_tree_edit.specs.Inner.Walk.{AreLeft, IsNext, held, is_kind_with_end, left, own_open, own_opens, row_at};
 
 use std::alloc::{AllocError, Global};
@@ -150,6 +150,19 @@ impl<'t, 'p> Events<'t, 'p> {
             self.ends.push(end)?;
         }
         Ok(())
+    }
+
+    /// Goes on behind bytes of the text that is read, if it goes on with them.
+    pub(crate) fn take_bytes(&mut self, bytes: &[u8]) -> bool
+        ensures taken { IsTrue result → left self.old ≡ map says bytes.now ++ left self.new }
+        ensures left { result ≡ false → left self.new ≡ left self.old }
+        ensures tree { self.new.tree.now ≡ self.old.tree.now }
+    {
+        let Some(rest) = self.text.strip_prefix(bytes) else {
+            return false;
+        };
+        self.text = rest;
+        true
     }
 
     // Goes on behind where the next row begins, which is no text.

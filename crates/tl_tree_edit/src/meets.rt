@@ -91,18 +91,37 @@ impl Events<'_, '_> {
         self.meets_end()
     }
 
-    // Whether a text comes next.
-    pub(crate) fn meets_text(&mut self, text: &[u8]) -> Result<bool, AllocError>
+    // Whether bytes of texts come next, one after the other.
+    fn meets_bytes(&mut self, bytes: &[u8]) -> Result<bool, AllocError>
         ensures met { IfOk result
-            (Meets (map says text.now) self.old self.new) }
+            (Meets (map says bytes.now) self.old self.new) }
         ensures tree { self.new.tree.now ≡ self.old.tree.now }
     {
-        for byte in text {
+        for byte in bytes {
             if !self.meets_byte(*byte)? {
                 return Ok(false);
             }
         }
         Ok(true)
+    }
+
+    // Whether a text comes next. Most often all of it stands in one text, so that only the first
+    // byte is looked for.
+    pub(crate) fn meets_text(&mut self, text: &[u8]) -> Result<bool, AllocError>
+        ensures met { IfOk result
+            (Meets (map says text.now) self.old self.new) }
+        ensures tree { self.new.tree.now ≡ self.old.tree.now }
+    {
+        let Some((first, rest)) = text.split_first() else {
+            return Ok(true);
+        };
+        if !self.meets_byte(*first)? {
+            return Ok(false);
+        }
+        if self.take_bytes(rest) {
+            return Ok(true);
+        }
+        self.meets_bytes(rest)
     }
 
     // Whether what a tree says next comes next.
