@@ -31,7 +31,7 @@ pub record IsSafe (lists : ListedWords) (text bytes : List ℕ) : Type 0 where
   pub read : (rest : List ℕ) → tokens_of (at data_state) (bytes ++ rest)
       ≡ tokens_of_trees (kept_in_div lists text) ++ tokens_of (at data_state) rest
   -- the standard's tree construction builds exactly its trees in each context element of flow
-  -- content, as `div`, `body`, `li` and `td`
+  -- content, as `div`, `body`, `li` and `td`, in quirks mode and not
   pub built : (context : Context) (counts_search : Bool) → is_flow_context context ≡ true
       → without_numbers (built_in context counts_search bytes)
       ≡ without_numbers (texts_joined (kept_in_div lists text))

@@ -187,7 +187,7 @@ earlier-some test bounds tested bounded (f ∷ fs) h k w = elim (cases_Bool (tes
 -- what bounds the search for an item, and that of any other end tag
 item_bound_same : {b : P.Builder} {c : B.Builder} (h : Like b c) (own : HtmlTag) → R.is_item_bound_in b own.name ≡ T.is_item_bound c.flags.counts_search (tag_of own)
 item_bound_same {b = b} {c = c} h own =
-    swapped (H.is_special own.name) (not (H.is_one_of (codes "address div p") own.name)) (b.counts_search || not (H.is_one_of (codes "search") own.name))
+    swapped (H.is_special own.name) (not (H.is_one_of (codes "address div p") own.name)) (b.reading.counts_search || not (H.is_one_of (codes "search") own.name))
     ∙ ap (λ v. T.is_item_bound v (tag_of own)) (sym h.search)
   where
     swapped : (x y z : Bool) → ((x && y) && z) ≡ ((x && z) && y)

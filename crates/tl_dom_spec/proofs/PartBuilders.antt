@@ -1,23 +1,28 @@
 -- The partial builder of `tl_tree_spec` and the whole one, side by side: what they hold alike, and what is done to both.
-use Rattle.std.proofs.Common.{◌≡◌, ℕ, suc, Bool, true, false, ◌==◌, List, [], ◌∷◌, map, Option, Some}
+use Rattle.std.proofs.Common.{◌≡◌, ℕ, suc, Bool, true, false, ◌==◌, List, [], ◌∷◌, map, Option, None, Some}
 use Rattle.std.specs.Prelude.{⊤, ◌<◌}
 use Rattle.tl_tree_spec.specs.Builder as P
 use Rattle.tl_tree_spec.specs.Groups as G
 use Rattle.tl_dom_spec.specs.Tags.{Tag, html_space}
 use Rattle.tl_dom_spec.specs.Groups as D
-use Rattle.tl_dom_spec.specs.Partial.{begins_in_body}
+use Rattle.tl_dom_spec.specs.Partial.{begins_in_flow}
 use Rattle.tl_dom_spec.specs.Builder as B
 use Rattle.tl_dom_spec.proofs.PartPaths.{IsStack, frames_of, name_of, path_of, tag_of}
 use Rattle.tl_dom_spec.proofs.PartSources.{bare_entries, bare_path}
 
-abbrev pub mode_is : P.Mode → B.Mode
-mode_is P.in_body = B.in_body
-mode_is P.in_table = B.in_table
-mode_is P.in_caption = B.in_caption
-mode_is P.in_column_group = B.in_column_group
-mode_is P.in_table_body = B.in_table_body
-mode_is P.in_row = B.in_row
-mode_is P.in_cell = B.in_cell
+-- the mode where no part of a table is open, in a `caption` as the context element or in another one
+abbrev pub first_mode : Bool → B.Mode
+first_mode true = B.in_caption
+first_mode false = B.in_body
+
+abbrev pub mode_is : Bool → P.Mode → B.Mode
+mode_is v P.in_body = first_mode v
+mode_is v P.in_table = B.in_table
+mode_is v P.in_caption = B.in_caption
+mode_is v P.in_column_group = B.in_column_group
+mode_is v P.in_table_body = B.in_table_body
+mode_is v P.in_row = B.in_row
+mode_is v P.in_cell = B.in_cell
 
 abbrev pub entry_of : P.Entry → B.Entry
 entry_of P.marker = B.marker
@@ -47,7 +52,7 @@ abbrev pub AreNumbered : ℕ → List P.Entry → List P.Frame → Type 0
 AreNumbered next entries [] = ⊤
 AreNumbered next entries (f ∷ fs) = (f.element.number < next) × Agrees f entries × AreNumbered next entries fs
 
--- which element stands right in which: parts of a table in one another, and nothing else in a table, a row or what is around rows
+-- which element stands right in which: parts of a table in one another, and nothing else in a table, a row or what is around rows. A `col` is never open
 
 abbrev pub is_cell_or_caption : G.Group → Bool
 is_cell_or_caption G.a_cell = true
@@ -68,6 +73,7 @@ stands_in G.a_column_group around = G.is_table_group around
 stands_in G.a_caption around = G.is_table_group around
 stands_in G.a_row around = G.is_table_body_group around
 stands_in G.a_cell around = G.is_row_group around
+stands_in G.a_column around = false
 stands_in inner around = is_flow_group around
 
 abbrev pub Stand : P.Frame → List P.Frame → Type 0
@@ -86,24 +92,33 @@ pub record Sound (b : P.Builder) : Type 0 where
 abbrev pub as_html : Tag → Tag
 as_html tag = record tag { space = html_space }
 
--- the context element is one of HTML in which the first rules are those of "in body"
+-- the context element is one of HTML in which the first rules are those of "in body" or "in caption"
 pub record IsFlow (context : Option Tag) : Type 0 where
   pub tag : Tag
   pub is : context ≡ Some (as_html tag)
-  pub begins : begins_in_body (D.group tag.name) ≡ true
+  pub begins : begins_in_flow (D.group tag.name) ≡ true
+
+abbrev pub is_caption_group : D.Group → Bool
+is_caption_group D.a_caption = true
+is_caption_group _ = false
+
+-- whether it is a `caption`
+abbrev pub in_caption : Option Tag → Bool
+in_caption None = false
+in_caption (Some tag) = is_caption_group (D.group tag.name)
 
 -- what the whole builder holds besides is no matter, nor are the numbers of start tags
 pub record Like (b : P.Builder) (c : B.Builder) : Type 0 where
   pub path : bare_path c.path ≡ path_of (frames_of b.stack)
   pub active : bare_entries c.active ≡ map entry_of b.active
   pub next : c.next ≡ suc b.next
-  pub mode : c.mode ≡ mode_is b.mode
+  pub mode : c.mode ≡ mode_is (in_caption c.context) b.mode
   pub skips : c.skips ≡ b.skips
   pub fostering : c.is_fostering ≡ false
-  pub quirks : c.is_quirks ≡ false
+  pub quirks : c.is_quirks ≡ b.reading.is_quirks
   pub templates : c.templates ≡ []
   pub context : IsFlow c.context
-  pub search : c.flags.counts_search ≡ b.counts_search
+  pub search : c.flags.counts_search ≡ b.reading.counts_search
 
 -- both
 pub record Alike (b : P.Builder) (c : B.Builder) : Type 0 where

@@ -10,7 +10,7 @@ use Rattle.tl_dom_spec.specs.Builder as B
 use Rattle.tl_dom_spec.specs.Formatting as F
 use Rattle.tl_dom_spec.proofs.PartPaths.{IsStack, frame_of, frames_of, has_in, implied_is, is_open_number, nodes_of, path_of, tag_of, tag_with, through_is}
 use Rattle.tl_dom_spec.proofs.PartActive.{with_room_is}
-use Rattle.tl_dom_spec.proofs.PartBuilders.{Like, entry_of, mode_is}
+use Rattle.tl_dom_spec.proofs.PartBuilders.{Like, entry_of, in_caption, mode_is}
 use Rattle.tl_dom_spec.proofs.PartSources.{bare_entries, bare_nodes, bare_path, caught_up-bare, implied_closed-bare, is_open_number-bare, on_top-bare, popped_through-bare, put-bare, seen, with_room-bare}
 use Rattle.tl_dom_spec.specs.Partial.{unnumbered}
 use Rattle.std.proofs.lemmas.Bool.{eq-eqb}
@@ -46,7 +46,7 @@ module _ {b : P.Builder} {c : B.Builder} (h : Like b c) where
     search = h.search;
   }
 
-  pub in_mode : (m : P.Mode) → Like (record b { mode = m }) (record c { mode = mode_is m })
+  pub in_mode : (m : P.Mode) → Like (record b { mode = m }) (record c { mode = mode_is (in_caption c.context) m })
   in_mode m = record {
     path = h.path;
     active = h.active;

@@ -204,6 +204,16 @@ module _ {b : P.Builder} {c : B.Builder} (a : Alike b c) (k : P.is_flow b.mode �
   with_formatting : Goes b (P.reconstructed b) (F.reconstruct_formatting c)
   with_formatting = rebuilt a k
 
+  -- but in quirks mode
+  before_table : Goes b (R.ready_for_table b) (if c.is_quirks then c else D.close_p c)
+  before_table = by_mode b.reading.is_quirks c.is_quirks (a.like).quirks
+    where
+      by_mode : (v w : Bool) → w ≡ v → Goes b (if v then b else R.p_closed b) (if w then c else D.close_p c)
+      by_mode true true e = stays a
+      by_mode false false e = with_p_closed
+      by_mode true false e = absurd (true≢false (sym e))
+      by_mode false true e = absurd (true≢false e)
+
   -- a break, and other void elements
   void : (other : HtmlTag) → Goes b (P.alone (P.reconstructed b) other) (D.void_start c (tag_with source other))
   void other = calm (after with_formatting (put_alone with_formatting.alike (ready with_formatting) other source))
@@ -300,16 +310,16 @@ module _ {b : P.Builder} {c : B.Builder} (a : Alike b c) (k : P.is_flow b.mode �
       let g₁ = ruby_closed a k R.is_rtc (T.is_any (codes "rtc")) (λ own. refl) in
       done h (after g₁ (put g₁.alike (ready g₁) own source (plain_is _ own.name refl e))) _ refl
   start_of G.a_table e t h =
-      let g₁ = with_p_closed in
-      let q = R.p_closed b in
-      let d = D.close_p c in
+      let g₁ = before_table in
+      let q = R.ready_for_table b in
+      let d = if c.is_quirks then c else D.close_p c in
       let top = flow_top q (g₁.alike).sound (ready g₁) in
       let sound : Sound (record (P.inserted q own) { mode = P.in_table }) =
       pushed_sound q own P.in_table (g₁.alike).sound (ap has_twin e) (ap (λ g. stands_in g (group_of q.stack.current)) e ∙ top) (sym (ap (λ g. P.mode_by g q.mode) e)) in
       let like : Like (record (P.inserted q own) { mode = P.in_table }) (record (B.frameset_not_ok (B.insert_element tag d)) { mode = B.in_table }) =
       in_mode (frameset_not_ok (inserted (g₁.alike).like own source)) P.in_table in (
         record (B.frameset_not_ok (B.insert_element tag d)) { mode = B.in_table },
-        ap (λ v. B.Done (B.switch_to B.in_table (B.frameset_not_ok (B.insert_element tag (if v then c else D.close_p c))))) (a.like).quirks,
+        refl,
         subst (λ (x : P.Builder). Alike x (record (B.frameset_not_ok (B.insert_element tag d)) { mode = B.in_table })) (some_is h) (record { sound = sound; like = like }),
       )
   start_of G.a_caption e t h = done h (stays a) _ refl

@@ -1,5 +1,5 @@
 -- What holds of the partial builder stays so, by the rules of "in body".
-use Rattle.std.proofs.Common.{◌≡◌, ◌<◌, ℕ, suc, Bool, true, false, not, ◌||◌, ◌&&◌, ◌==◌, List, [], ◌∷◌, map, codes, refl, ap, sym, ◌∙◌, subst, inl, inr, true≢false, arith}
+use Rattle.std.proofs.Common.{◌≡◌, ◌<◌, ℕ, suc, Bool, true, false, not, ◌||◌, ◌&&◌, ◌==◌, List, [], ◌∷◌, map, codes, refl, ap, ap₂, sym, ◌∙◌, subst, inl, inr, true≢false, arith}
 use Rattle.std.specs.Prelude.{nat_lt}
 use Rattle.std.proofs.lemmas.Bool.{and_parts, cases_Bool, cond-false, cond-true, eqb-true, false_from_ne_true}
 use Rattle.tl_tree_spec.specs.Builder as P
@@ -15,9 +15,13 @@ use Rattle.tl_dom_spec.proofs.PartBuilders.{Agrees, AreListed, AreNumbered, Soun
 abbrev pub group_of : P.Frame → G.Group
 group_of f = G.group (name_of f)
 
+abbrev is_column : G.Group → Bool
+is_column G.a_column = true
+is_column _ = false
+
 -- what is no part of a table, and no table
 abbrev pub is_plain : G.Group → Bool
-is_plain g = has_twin g && (is_flow_group g && not (is_cell_or_caption g))
+is_plain g = has_twin g && (is_flow_group g && not (is_cell_or_caption g || is_column g))
 
 pub plain_twin : (g : G.Group) → is_plain g ≡ true → has_twin g ≡ true
 plain_twin g h = (and_parts (has_twin g) _ h).0
@@ -37,6 +41,7 @@ plain_stands G.a_column_group around h = absurd (true≢false (sym h))
 plain_stands G.a_caption around h = absurd (true≢false (sym h))
 plain_stands G.a_row around h = absurd (true≢false (sym h))
 plain_stands G.a_cell around h = absurd (true≢false (sym h))
+plain_stands G.a_column around h = absurd (true≢false (sym h))
 plain_stands _ around h = refl
 
 pub formatting_plain : (g : G.Group) → is_formatting_group g ≡ true → is_plain g ≡ true
@@ -295,7 +300,7 @@ module _ (next : ℕ) (es : List P.Entry) where
         nothing false = refl
     through_sound f (o ∷ os) k l n top w = elim (cases_Bool (test f.element)) [
       | inl y ↦ (
-          let p = flow_plain (group_of f) k.0 top (other f y n.1) in
+          let p = flow_plain (group_of f) (group_of o) k.0 top (other f y n.1) l.0 in
           let u = under f o os p k l n in (
             ap (λ v. v || has_in test o os) y,
             subst (Popped (names_in f (o ∷ os)) next es) (sym (cond-true _ _ _ y))
@@ -305,7 +310,7 @@ module _ (next : ℕ) (es : List P.Entry) where
           let deeper : (not (bounds (name_of f)) && P.within test (P.has_name bounds) (map element_of (o ∷ os))) ≡ true =
           sym (ap (λ v. v || (not (bounds (name_of f)) && P.within test (P.has_name bounds) (map element_of (o ∷ os)))) m) ∙ w in
           let two = and_parts (not (bounds (name_of f))) _ deeper in
-          let p = flow_plain (group_of f) k.0 top (cover (name_of f) (was_false (bounds (name_of f)) two.0)) in
+          let p = flow_plain (group_of f) (group_of o) k.0 top (cover (name_of f) (was_false (bounds (name_of f)) two.0)) l.0 in
           let u = under f o os p k l n in
           let more = through_sound (P.closed_into o f) os u.0 u.1 u.2 u.3 two.1 in (
             ap (λ v. v || has_in test o os) m ∙ same_in o f os more.0,
@@ -321,8 +326,15 @@ module _ (next : ℕ) (es : List P.Entry) where
         same_in o f [] h = h
         same_in o f (p ∷ os) h = h
 
-        flow_plain : (g : G.Group) → has_twin g ≡ true → is_flow_group g ≡ true → is_cell_or_caption g ≡ false → is_plain g ≡ true
-        flow_plain g t f c = ap (λ v. v && (is_flow_group g && not (is_cell_or_caption g))) t ∙ ap (λ v. v && not (is_cell_or_caption g)) f ∙ ap not c
+        no_column : (g around : G.Group) → stands_in g around ≡ true → is_column g ≡ false
+        no_column G.a_column around s = absurd (true≢false (sym s))
+        no_column _ around s = refl
+
+        flow_plain : (g around : G.Group) → has_twin g ≡ true → is_flow_group g ≡ true → is_cell_or_caption g ≡ false → stands_in g around ≡ true → is_plain g ≡ true
+        flow_plain g around t f c s =
+            ap (λ v. v && (is_flow_group g && not (is_cell_or_caption g || is_column g))) t
+            ∙ ap (λ v. v && not (is_cell_or_caption g || is_column g)) f
+            ∙ ap₂ (λ v w. not (v || w)) c (no_column g around s)
 
   -- implied end tags
   module _ (but : List ℕ → Bool) where

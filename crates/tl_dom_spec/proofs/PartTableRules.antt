@@ -19,7 +19,7 @@ use Rattle.tl_dom_spec.specs.Tables as S
 use Rattle.tl_dom_spec.specs.Dispatcher as M
 use Rattle.tl_dom_spec.proofs.PartNames.{facts, has_twin, is_elsewhere, is_misplaced, is_option_group, twin}
 use Rattle.tl_dom_spec.proofs.PartPaths.{IsStack, frames_of, name_of, path_of, tag_of, tag_with}
-use Rattle.tl_dom_spec.proofs.PartBuilders.{Alike, Like, Sound, as_html, mode_is, stands_in}
+use Rattle.tl_dom_spec.proofs.PartBuilders.{Alike, Like, Sound, Stand, as_html, first_mode, in_caption, mode_is, stands_in}
 use Rattle.tl_dom_spec.proofs.PartOps as O
 use Rattle.tl_dom_spec.proofs.PartSound.{alone_sound, group_of, names_in}
 use Rattle.tl_dom_spec.proofs.PartRules.{end_in_body, start_in_body}
@@ -63,7 +63,11 @@ pub content_of : (token : B.Token) (t : T.Tag) (f : P.Frame) (v : Bool) → M.is
 content_of token t f true = html_around t token
 content_of token t f false = html_content f.element.own token
 
-pub dispatched : {b : P.Builder} {c : B.Builder} → Like b c → (token : B.Token) → M.dispatch token c ≡ M.mode_step (mode_is b.mode) c token
+-- the mode of the whole builder where the partial one is in this mode
+abbrev pub mode_now : B.Builder → P.Mode → B.Mode
+mode_now c m = mode_is (in_caption c.context) m
+
+pub dispatched : {b : P.Builder} {c : B.Builder} → Like b c → (token : B.Token) → M.dispatch token c ≡ M.mode_step (mode_now c b.mode) c token
 dispatched {b = b} {c = c} h token =
     cond-true _ _ _ (
     html_content-bare c.context c.path token
@@ -72,7 +76,7 @@ dispatched {b = b} {c = c} h token =
     ∙ ap (λ m. M.mode_step m c token) h.mode
 
 pub again : {b : P.Builder} {c : B.Builder} → Alike b c → (token : B.Token) (n : ℕ) (after : P.Builder) →
-    Reaches (M.mode_step (mode_is b.mode) c token) n (M.dispatch token) after → Reaches (B.Again c) (suc n) (M.dispatch token) after
+    Reaches (M.mode_step (mode_now c b.mode) c token) n (M.dispatch token) after → Reaches (B.Again c) (suc n) (M.dispatch token) after
 again h token n after r = subst (λ o. Reaches o n (M.dispatch token) after) (sym (dispatched h.like token)) r
 
 -- What the partial builder answers
@@ -296,6 +300,82 @@ cell_in_scope b h m = cell_within b.stack.current b.stack.others h.stack (sym h.
 column_same : {b : P.Builder} {c : B.Builder} → Like b c → S.is_in_column_group c ≡ R.is_in_column_group b
 column_same {b = b} {c = c} h = ap (λ (f : W.Frame). T.is_any (codes "colgroup") f.tag) (top-bare c.path) ∙ ap (λ p. T.is_any (codes "colgroup") (W.top p).tag) h.path ∙ sym (facts (name_of b.stack.current)).column_group
 
+-- Where no table is open, nor a part of one
+
+abbrev is_in_body : P.Mode → Bool
+is_in_body P.in_body = true
+is_in_body _ = false
+
+abbrev is_of_table : G.Group → Bool
+is_of_table G.a_table = true
+is_of_table g = G.is_part g
+
+none_here : (g around : G.Group) (m : P.Mode) → stands_in g around ≡ true → P.mode_by g m ≡ P.in_body → (is_of_table g ≡ false) × (m ≡ P.in_body)
+none_here G.a_table around m s h = absurd (true≢false (sym (ap is_in_body h)))
+none_here G.a_caption around m s h = absurd (true≢false (sym (ap is_in_body h)))
+none_here G.a_column_group around m s h = absurd (true≢false (sym (ap is_in_body h)))
+none_here G.a_column around m s h = absurd (true≢false (sym s))
+none_here G.a_table_body around m s h = absurd (true≢false (sym (ap is_in_body h)))
+none_here G.a_row around m s h = absurd (true≢false (sym (ap is_in_body h)))
+none_here G.a_cell around m s h = absurd (true≢false (sym (ap is_in_body h)))
+none_here _ around m s h = (refl, h)
+
+-- what only such elements pass, none passes then
+module _ (test bounds : List ℕ → Bool) (only : (n : List ℕ) → test n ≡ true → is_of_table (G.group n) ≡ true) where
+  fails : (n : List ℕ) → is_of_table (G.group n) ≡ false → test n ≡ false
+  fails n h = false_from_ne_true (test n) (λ y. true≢false (sym (only n y) ∙ h))
+
+  none_around : (v w : Bool) → v ≡ false → w ≡ false → (u : Bool) → (v || (u && w)) ≡ false
+  none_around v w h k true = ap₂ (λ x y. x || y) h k
+  none_around v w h k false = ap (λ x. x || false) h
+
+  none_within : (f : P.Frame) (os : List P.Frame) → IsStack f os → Stand f os → mode_in f os ≡ P.in_body → P.within test bounds (names_in f os) ≡ false
+  none_within f [] k l m = none_around (test (name_of f)) false (fails (name_of f) (ap (λ n. is_of_table (G.group n)) k)) refl (not (bounds (name_of f)))
+  none_within f (o ∷ os) k l m =
+      let two = none_here (group_of f) (group_of o) (mode_in o os) l.0 m in
+      none_around (test (name_of f)) (P.within test bounds (names_in o os)) (fails (name_of f) two.0) (none_within o os k.1 l.1 two.1) (not (bounds (name_of f)))
+
+  pub none_open : (b : P.Builder) → Sound b → b.mode ≡ P.in_body → P.within test bounds (P.names b.stack) ≡ false
+  none_open b h m = none_within b.stack.current b.stack.others h.stack h.stand (sym h.mode ∙ m)
+
+caption_off_table : (n : List ℕ) → G.is_caption n ≡ true → is_of_table (G.group n) ≡ true
+caption_off_table n y = by_group (G.group n) y
+  where
+    by_group : (g : G.Group) → G.is_caption_group g ≡ true → is_of_table g ≡ true
+    by_group G.a_caption y = refl
+    by_group _ y = absurd (true≢false (sym y))
+
+no_caption : (b : P.Builder) → Sound b → b.mode ≡ P.in_body → R.has_in_table_scope G.is_caption b ≡ false
+no_caption b h m = none_open G.is_caption G.is_table_scope caption_off_table b h m
+
+-- so "in caption" has the outcome of "in body" there
+
+start_in_caption : (b : P.Builder) → Sound b → b.mode ≡ P.in_body → (g : G.Group) (own : HtmlTag) (after : P.Builder) → R.body_start b g own ≡ Some after → R.caption_start b g own ≡ Some after
+start_in_caption b h m G.a_caption own after eq = cond-false _ _ _ (no_caption b h m) ∙ eq
+start_in_caption b h m G.a_column_group own after eq = cond-false _ _ _ (no_caption b h m) ∙ eq
+start_in_caption b h m G.a_column own after eq = cond-false _ _ _ (no_caption b h m) ∙ eq
+start_in_caption b h m G.a_table_body own after eq = cond-false _ _ _ (no_caption b h m) ∙ eq
+start_in_caption b h m G.a_row own after eq = cond-false _ _ _ (no_caption b h m) ∙ eq
+start_in_caption b h m G.a_cell own after eq = cond-false _ _ _ (no_caption b h m) ∙ eq
+start_in_caption b h m _ own after eq = eq
+
+nothing_ended : (b : P.Builder) → Sound b → b.mode ≡ P.in_body → (name : List ℕ) → is_of_table (G.group name) ≡ true → b ≡ R.other_ended b name
+nothing_ended b h m name y =
+    sym (cond-false _ _ _ (none_open (bytes_eq name) (R.is_special_in b)
+    (λ n e. ap (λ x. is_of_table (G.group x)) (sym ((bytes_eq-Decides name n).0 e)) ∙ y) b h m))
+
+end_in_caption : (b : P.Builder) → Sound b → b.mode ≡ P.in_body → (g : G.Group) (name : List ℕ) → G.group name ≡ g → (after : P.Builder) → R.body_end b g name ≡ Some after → R.caption_end b g name ≡ Some after
+end_in_caption b h m G.a_caption name e after eq =
+    ap Some (cond-false _ _ _ (no_caption b h m) ∙ nothing_ended b h m name (ap is_of_table e)) ∙ eq
+end_in_caption b h m G.a_table name e after eq =
+    cond-false _ _ _ (no_caption b h m) ∙ ap Some (nothing_ended b h m name (ap is_of_table e)) ∙ eq
+end_in_caption b h m G.a_column_group name e after eq = ap Some (nothing_ended b h m name (ap is_of_table e)) ∙ eq
+end_in_caption b h m G.a_column name e after eq = ap Some (nothing_ended b h m name (ap is_of_table e)) ∙ eq
+end_in_caption b h m G.a_table_body name e after eq = ap Some (nothing_ended b h m name (ap is_of_table e)) ∙ eq
+end_in_caption b h m G.a_row name e after eq = ap Some (nothing_ended b h m name (ap is_of_table e)) ∙ eq
+end_in_caption b h m G.a_cell name e after eq = ap Some (nothing_ended b h m name (ap is_of_table e)) ∙ eq
+end_in_caption b h m _ name e after eq = eq
+
 -- Start tags
 
 body_same : (own : HtmlTag) → G.is_table_body own.name ≡ T.is_any (codes "tbody tfoot thead") (tag_of own)
@@ -320,11 +400,12 @@ module _ (own : HtmlTag) (source : Option ℕ) (closes : Bool) (after : P.Builde
       subst (λ o. Reaches o n (starts g) after) (sym (ap (λ x. Body.body_start c x (tag_with source own) closes) (sym d) ∙ f.1)) f.2
 
   -- in a mode where the rules of "in body" are used for it, a table is opened by them
-  flow_start : (m : P.Mode) (d : B.Builder) → P.is_flow m ≡ true → M.mode_step (mode_is m) d (start G.a_table) ≡ Body.body_start d D.a_table (tag_with source own) closes
-  flow_start P.in_body d k = refl
-  flow_start P.in_cell d k = refl
-  flow_start P.in_caption d k = refl
-  flow_start _ d k = absurd (true≢false (sym k))
+  flow_start : (v : Bool) (m : P.Mode) (d : B.Builder) → P.is_flow m ≡ true → M.mode_step (mode_is v m) d (start G.a_table) ≡ Body.body_start d D.a_table (tag_with source own) closes
+  flow_start true P.in_body d k = refl
+  flow_start false P.in_body d k = refl
+  flow_start v P.in_cell d k = refl
+  flow_start v P.in_caption d k = refl
+  flow_start v _ d k = absurd (true≢false (sym k))
 
   outer_table : (b : P.Builder) (c : B.Builder) → Alike b c → R.has_in_table_scope G.is_table b ≡ true → G.group own.name ≡ G.a_table → (n : ℕ) →
       (if P.is_flow (R.table_closed b).mode then R.body_start (R.table_closed b) G.a_table own else None) ≡ Some after →
@@ -333,7 +414,7 @@ module _ (own : HtmlTag) (source : Option ℕ) (closes : Bool) (after : P.Builde
       let k = A.table_closed h opens in
       elim (cases_Bool (P.is_flow (R.table_closed b).mode)) [
         | inl y ↦ again k (start G.a_table) n after
-            (subst (λ o. Reaches o n (starts G.a_table) after) (sym (flow_start (R.table_closed b).mode (S.table_closed c) y))
+            (subst (λ o. Reaches o n (starts G.a_table) after) (sym (flow_start (in_caption (S.table_closed c).context) (R.table_closed b).mode (S.table_closed c) y))
             (body_start (R.table_closed b) (S.table_closed c) k y G.a_table e refl (sym (cond-true _ _ _ y) ∙ eq) n))
         | inr m ↦ absurd (no_answer after (sym (cond-false _ _ _ m) ∙ eq))
       ]
@@ -442,10 +523,10 @@ module _ (own : HtmlTag) (source : Option ℕ) (closes : Bool) (after : P.Builde
       (subst (λ o. Reaches o (suc (suc (suc (suc n)))) (starts g) after) (sym same) (row_start (R.cell_closed b) (S.cell_closed S.is_cell c) k refl g e n eq)))
 
   -- and a caption
-  caption_part : (b : P.Builder) (c : B.Builder) → Alike b c → b.mode ≡ P.in_caption → (g : G.Group) → G.group own.name ≡ g → (n : ℕ) → R.caption_part_start b g own ≡ Some after →
+  caption_part : (b : P.Builder) (c : B.Builder) → Alike b c → (g : G.Group) → G.group own.name ≡ g → (n : ℕ) → R.caption_part_start b g own ≡ Some after →
       (M.mode_step B.in_table (S.caption_closed c) (start g) ≡ S.table_start (S.caption_closed c) (twin g) (tag_with source own) closes) →
       Reaches (S.after_caption c) (suc (suc (suc n))) (starts g) after
-  caption_part b c h m g e n eq same =
+  caption_part b c h g e n eq same =
       either_way (suc (suc (suc n))) (starts g) after (R.has_in_table_scope G.is_caption b) (B.has_in_table_scope S.is_caption c)
       (R.table_start (R.caption_closed b) g own) (Some b) (B.Again (S.caption_closed c)) (B.Done c)
       (in_table_scope h.like G.is_caption S.is_caption (caption_same h))
@@ -474,15 +555,15 @@ module _ (own : HtmlTag) (source : Option ℕ) (closes : Bool) (after : P.Builde
   column_start b c h m G.an_option e t n eq = absurd (true≢false (sym t))
   column_start b c h m g e t n eq = column_other b c h m g e n eq refl
 
-  caption_start : (b : P.Builder) (c : B.Builder) → Alike b c → b.mode ≡ P.in_caption → (g : G.Group) → G.group own.name ≡ g → has_twin g ≡ true → (n : ℕ) → R.caption_start b g own ≡ Some after →
+  caption_start : (b : P.Builder) (c : B.Builder) → Alike b c → P.is_flow b.mode ≡ true → (g : G.Group) → G.group own.name ≡ g → has_twin g ≡ true → (n : ℕ) → R.caption_start b g own ≡ Some after →
       Reaches (S.caption_start c (twin g) (tag_with source own) closes) (suc (suc (suc n))) (starts g) after
-  caption_start b c h m G.a_caption e t n eq = caption_part b c h m G.a_caption e n eq refl
-  caption_start b c h m G.a_column_group e t n eq = caption_part b c h m G.a_column_group e n eq refl
-  caption_start b c h m G.a_column e t n eq = caption_part b c h m G.a_column e n eq refl
-  caption_start b c h m G.a_table_body e t n eq = caption_part b c h m G.a_table_body e n eq refl
-  caption_start b c h m G.a_row e t n eq = caption_part b c h m G.a_row e n eq refl
-  caption_start b c h m G.a_cell e t n eq = caption_part b c h m G.a_cell e n eq refl
-  caption_start b c h m g e t n eq = body_start b c h (ap P.is_flow m) g e t eq (suc (suc (suc n)))
+  caption_start b c h m G.a_caption e t n eq = caption_part b c h G.a_caption e n eq refl
+  caption_start b c h m G.a_column_group e t n eq = caption_part b c h G.a_column_group e n eq refl
+  caption_start b c h m G.a_column e t n eq = caption_part b c h G.a_column e n eq refl
+  caption_start b c h m G.a_table_body e t n eq = caption_part b c h G.a_table_body e n eq refl
+  caption_start b c h m G.a_row e t n eq = caption_part b c h G.a_row e n eq refl
+  caption_start b c h m G.a_cell e t n eq = caption_part b c h G.a_cell e n eq refl
+  caption_start b c h m g e t n eq = body_start b c h m g e t eq (suc (suc (suc n)))
 
   cell_start : (b : P.Builder) (c : B.Builder) → Alike b c → b.mode ≡ P.in_cell → (g : G.Group) → G.group own.name ≡ g → has_twin g ≡ true → (n : ℕ) → R.cell_start b g own ≡ Some after →
       Reaches (S.cell_start c (twin g) (tag_with source own) closes) (suc (suc (suc (suc (suc n))))) (starts g) after
@@ -496,10 +577,14 @@ module _ (own : HtmlTag) (source : Option ℕ) (closes : Bool) (after : P.Builde
 
   -- in any mode
   twin_start : (b : P.Builder) (c : B.Builder) → Alike b c → (m : P.Mode) → b.mode ≡ m → (g : G.Group) → G.group own.name ≡ g → has_twin g ≡ true → (n : ℕ) → R.start_tag m b g own ≡ Some after →
-      Reaches (M.mode_step (mode_is m) c (start g)) (suc (suc (suc (suc (suc n))))) (starts g) after
-  twin_start b c h P.in_body m g e t n eq = body_start b c h (ap P.is_flow m) g e t eq (suc (suc (suc (suc (suc n)))))
+      Reaches (M.mode_step (mode_now c m) c (start g)) (suc (suc (suc (suc (suc n))))) (starts g) after
+  twin_start b c h P.in_body m g e t n eq = first_start (in_caption c.context)
+    where
+      first_start : (v : Bool) → Reaches (M.mode_step (first_mode v) c (start g)) (suc (suc (suc (suc (suc n))))) (starts g) after
+      first_start true = caption_start b c h (ap P.is_flow m) g e t (suc (suc n)) (start_in_caption b h.sound m g own after eq)
+      first_start false = body_start b c h (ap P.is_flow m) g e t eq (suc (suc (suc (suc (suc n)))))
   twin_start b c h P.in_table m g e t n eq = table_start b c h m g e (suc (suc (suc n))) eq
-  twin_start b c h P.in_caption m g e t n eq = caption_start b c h m g e t (suc (suc n)) eq
+  twin_start b c h P.in_caption m g e t n eq = caption_start b c h (ap P.is_flow m) g e t (suc (suc n)) eq
   twin_start b c h P.in_column_group m g e t n eq = column_start b c h m g e t (suc (suc n)) eq
   twin_start b c h P.in_table_body m g e t n eq = table_body_start b c h m g e (suc (suc n)) eq
   twin_start b c h P.in_row m g e t n eq = row_start b c h m g e (suc n) eq
@@ -528,37 +613,39 @@ module _ (own : HtmlTag) (source : Option ℕ) (closes : Bool) (after : P.Builde
   lost b h m e G.elsewhere t eq = absurd (lost_elsewhere b m eq)
   lost b h m e _ t eq = absurd (true≢false t)
 
-  lost_step : (d : D.Group) → (d ≡ D.the_head) ⊎ (d ≡ D.a_frame) → (m : P.Mode) (c : B.Builder) → P.is_flow m ≡ true →
-      M.mode_step (mode_is m) c (B.a_start d (tag_with source own) closes) ≡ Body.body_start c d (tag_with source own) closes
-  lost_step d (inl y) m c k = ap (λ x. M.mode_step (mode_is m) c (B.a_start x (tag_with source own) closes)) y ∙ at_head m c k ∙ ap (λ x. Body.body_start c x (tag_with source own) closes) (sym y)
+  lost_step : (d : D.Group) → (d ≡ D.the_head) ⊎ (d ≡ D.a_frame) → (v : Bool) (m : P.Mode) (c : B.Builder) → P.is_flow m ≡ true →
+      M.mode_step (mode_is v m) c (B.a_start d (tag_with source own) closes) ≡ Body.body_start c d (tag_with source own) closes
+  lost_step d (inl y) v m c k = ap (λ x. M.mode_step (mode_is v m) c (B.a_start x (tag_with source own) closes)) y ∙ at_head v m c k ∙ ap (λ x. Body.body_start c x (tag_with source own) closes) (sym y)
     where
-      at_head : (m : P.Mode) (c : B.Builder) → P.is_flow m ≡ true → M.mode_step (mode_is m) c (B.a_start D.the_head (tag_with source own) closes) ≡ Body.body_start c D.the_head (tag_with source own) closes
-      at_head P.in_body c k = refl
-      at_head P.in_caption c k = refl
-      at_head P.in_cell c k = refl
-      at_head _ c k = absurd (true≢false (sym k))
-  lost_step d (inr y) m c k = ap (λ x. M.mode_step (mode_is m) c (B.a_start x (tag_with source own) closes)) y ∙ at_frame m c k ∙ ap (λ x. Body.body_start c x (tag_with source own) closes) (sym y)
+      at_head : (v : Bool) (m : P.Mode) (c : B.Builder) → P.is_flow m ≡ true → M.mode_step (mode_is v m) c (B.a_start D.the_head (tag_with source own) closes) ≡ Body.body_start c D.the_head (tag_with source own) closes
+      at_head true P.in_body c k = refl
+      at_head false P.in_body c k = refl
+      at_head v P.in_caption c k = refl
+      at_head v P.in_cell c k = refl
+      at_head v _ c k = absurd (true≢false (sym k))
+  lost_step d (inr y) v m c k = ap (λ x. M.mode_step (mode_is v m) c (B.a_start x (tag_with source own) closes)) y ∙ at_frame v m c k ∙ ap (λ x. Body.body_start c x (tag_with source own) closes) (sym y)
     where
-      at_frame : (m : P.Mode) (c : B.Builder) → P.is_flow m ≡ true → M.mode_step (mode_is m) c (B.a_start D.a_frame (tag_with source own) closes) ≡ Body.body_start c D.a_frame (tag_with source own) closes
-      at_frame P.in_body c k = refl
-      at_frame P.in_caption c k = refl
-      at_frame P.in_cell c k = refl
-      at_frame _ c k = absurd (true≢false (sym k))
+      at_frame : (v : Bool) (m : P.Mode) (c : B.Builder) → P.is_flow m ≡ true → M.mode_step (mode_is v m) c (B.a_start D.a_frame (tag_with source own) closes) ≡ Body.body_start c D.a_frame (tag_with source own) closes
+      at_frame true P.in_body c k = refl
+      at_frame false P.in_body c k = refl
+      at_frame v P.in_caption c k = refl
+      at_frame v P.in_cell c k = refl
+      at_frame v _ c k = absurd (true≢false (sym k))
 
   -- a start tag, in any mode
   abbrev started : B.Token
   started = B.a_start (D.group own.name) (tag_with source own) closes
 
   pub a_start : (b : P.Builder) (c : B.Builder) → Alike b c → (n : ℕ) → R.start_tag b.mode b (G.group own.name) own ≡ Some after →
-      Reaches (M.mode_step (mode_is b.mode) c started) (suc (suc (suc (suc (suc n))))) (M.dispatch started) after
+      Reaches (M.mode_step (mode_now c b.mode) c started) (suc (suc (suc (suc (suc n))))) (M.dispatch started) after
   a_start b c h n eq = elim (cases_Bool (has_twin (G.group own.name))) [
-    | inl t ↦ subst (λ d. Reaches (M.mode_step (mode_is b.mode) c (B.a_start d (tag_with source own) closes)) (suc (suc (suc (suc (suc n))))) (M.dispatch (B.a_start d (tag_with source own) closes)) after)
+    | inl t ↦ subst (λ d. Reaches (M.mode_step (mode_now c b.mode) c (B.a_start d (tag_with source own) closes)) (suc (suc (suc (suc (suc n))))) (M.dispatch (B.a_start d (tag_with source own) closes)) after)
         (sym ((facts own.name).twins t)) (twin_start b c h b.mode refl (G.group own.name) refl t n eq)
     | inr t ↦ (
         let l = lost b h.sound b.mode refl (G.group own.name) t eq in
         let f = start_in_body b c h l.0 own source closes after (flow_rule b b.mode (G.group own.name) l.0 l.1 eq) in
         subst (λ o. Reaches o (suc (suc (suc (suc (suc n))))) (M.dispatch started) after)
-        (sym (lost_step (D.group own.name) ((facts own.name).lost l.1) b.mode c l.0 ∙ f.1)) f.2)
+        (sym (lost_step (D.group own.name) ((facts own.name).lost l.1) (in_caption c.context) b.mode c l.0 ∙ f.1)) f.2)
   ]
     where
       flow_rule : (b : P.Builder) (m : P.Mode) (g : G.Group) → P.is_flow m ≡ true → is_misplaced g ≡ true → R.start_tag m b g own ≡ Some after → R.body_start b g own ≡ Some after
@@ -595,7 +682,7 @@ module _ (name : List ℕ) (after : P.Builder) where
   table_end b c h G.a_cell n eq = done eq h
   table_end b c h _ n eq = absurd (no_answer after eq)
 
-  caption_end : (b : P.Builder) (c : B.Builder) → Alike b c → b.mode ≡ P.in_caption → (g : G.Group) → G.group name ≡ g → has_twin g ≡ true → (n : ℕ) → R.caption_end b g name ≡ Some after →
+  caption_end : (b : P.Builder) (c : B.Builder) → Alike b c → P.is_flow b.mode ≡ true → (g : G.Group) → G.group name ≡ g → has_twin g ≡ true → (n : ℕ) → R.caption_end b g name ≡ Some after →
       Reaches (S.caption_end c (twin g) name) (suc n) (ends g) after
   caption_end b c h m G.a_caption e t n eq =
       done eq (either (R.has_in_table_scope G.is_caption b) (B.has_in_table_scope S.is_caption c) (in_table_scope h.like G.is_caption S.is_caption (caption_same h)) (λ y. caption_closed h y) h)
@@ -611,7 +698,7 @@ module _ (name : List ℕ) (after : P.Builder) where
   caption_end b c h m G.a_row e t n eq = done eq h
   caption_end b c h m G.a_cell e t n eq = done eq h
   caption_end b c h m G.elsewhere e t n eq = absurd (no_answer after eq)
-  caption_end b c h m g e t n eq = body_end b c h (ap P.is_flow m) g e t (inl refl) eq (suc n)
+  caption_end b c h m g e t n eq = body_end b c h m g e t (inl refl) eq (suc n)
 
   column_part_end : (b : P.Builder) (c : B.Builder) → Alike b c → b.mode ≡ P.in_column_group → (g : G.Group) (n : ℕ) →
       (if R.is_in_column_group b then R.table_end (R.column_group_closed b) g name else Some b) ≡ Some after →
@@ -700,10 +787,14 @@ module _ (name : List ℕ) (after : P.Builder) where
   cell_end b c h m g e t n eq = body_end b c h (ap P.is_flow m) g e t (inl refl) eq (suc (suc (suc n)))
 
   twin_end : (b : P.Builder) (c : B.Builder) → Alike b c → (m : P.Mode) → b.mode ≡ m → (g : G.Group) → G.group name ≡ g → has_twin g ≡ true → (n : ℕ) → R.end_tag m b g name ≡ Some after →
-      Reaches (M.mode_step (mode_is m) c (finish g)) (suc (suc (suc n))) (ends g) after
-  twin_end b c h P.in_body m g e t n eq = body_end b c h (ap P.is_flow m) g e t (inr m) eq (suc (suc (suc n)))
+      Reaches (M.mode_step (mode_now c m) c (finish g)) (suc (suc (suc n))) (ends g) after
+  twin_end b c h P.in_body m g e t n eq = first_end (in_caption c.context)
+    where
+      first_end : (v : Bool) → Reaches (M.mode_step (first_mode v) c (finish g)) (suc (suc (suc n))) (ends g) after
+      first_end true = caption_end b c h (ap P.is_flow m) g e t (suc (suc n)) (end_in_caption b h.sound m g name e after eq)
+      first_end false = body_end b c h (ap P.is_flow m) g e t (inr m) eq (suc (suc (suc n)))
   twin_end b c h P.in_table m g e t n eq = table_end b c h g (suc (suc (suc n))) eq
-  twin_end b c h P.in_caption m g e t n eq = caption_end b c h m g e t (suc (suc n)) eq
+  twin_end b c h P.in_caption m g e t n eq = caption_end b c h (ap P.is_flow m) g e t (suc (suc n)) eq
   twin_end b c h P.in_column_group m g e t n eq = column_end b c h m g t (suc (suc n)) eq
   twin_end b c h P.in_table_body m g e t n eq = table_body_end b c h m g (suc (suc n)) eq
   twin_end b c h P.in_row m g e t n eq = row_end b c h m g (suc n) eq
@@ -757,23 +848,27 @@ module _ (name : List ℕ) (after : P.Builder) where
   lost_group G.elsewhere l o t e = absurd (true≢false e)
   lost_group _ l o t e = absurd (true≢false t)
 
-  lost_end_step : (m : P.Mode) (d : D.Group) (c : B.Builder) → is_lost d ≡ true → P.is_flow m ≡ true → M.mode_step (mode_is m) c (B.an_end d name) ≡ Body.body_end c d name
-  lost_end_step P.in_body D.the_head c l k = refl
-  lost_end_step P.in_body D.a_frame c l k = refl
-  lost_end_step P.in_body D.an_option c l k = refl
-  lost_end_step P.in_body D.an_option_group c l k = refl
-  lost_end_step P.in_caption D.the_head c l k = refl
-  lost_end_step P.in_caption D.a_frame c l k = refl
-  lost_end_step P.in_caption D.an_option c l k = refl
-  lost_end_step P.in_caption D.an_option_group c l k = refl
-  lost_end_step P.in_cell D.the_head c l k = refl
-  lost_end_step P.in_cell D.a_frame c l k = refl
-  lost_end_step P.in_cell D.an_option c l k = refl
-  lost_end_step P.in_cell D.an_option_group c l k = refl
-  lost_end_step P.in_body _ c l k = absurd (true≢false (sym l))
-  lost_end_step P.in_caption _ c l k = absurd (true≢false (sym l))
-  lost_end_step P.in_cell _ c l k = absurd (true≢false (sym l))
-  lost_end_step _ d c l k = absurd (true≢false (sym k))
+  lost_end_step : (v : Bool) (m : P.Mode) (d : D.Group) (c : B.Builder) → is_lost d ≡ true → P.is_flow m ≡ true → M.mode_step (mode_is v m) c (B.an_end d name) ≡ Body.body_end c d name
+  lost_end_step true P.in_body D.the_head c l k = refl
+  lost_end_step false P.in_body D.the_head c l k = refl
+  lost_end_step true P.in_body D.a_frame c l k = refl
+  lost_end_step false P.in_body D.a_frame c l k = refl
+  lost_end_step true P.in_body D.an_option c l k = refl
+  lost_end_step false P.in_body D.an_option c l k = refl
+  lost_end_step true P.in_body D.an_option_group c l k = refl
+  lost_end_step false P.in_body D.an_option_group c l k = refl
+  lost_end_step v P.in_caption D.the_head c l k = refl
+  lost_end_step v P.in_caption D.a_frame c l k = refl
+  lost_end_step v P.in_caption D.an_option c l k = refl
+  lost_end_step v P.in_caption D.an_option_group c l k = refl
+  lost_end_step v P.in_cell D.the_head c l k = refl
+  lost_end_step v P.in_cell D.a_frame c l k = refl
+  lost_end_step v P.in_cell D.an_option c l k = refl
+  lost_end_step v P.in_cell D.an_option_group c l k = refl
+  lost_end_step v P.in_body _ c l k = absurd (true≢false (sym l))
+  lost_end_step v P.in_caption _ c l k = absurd (true≢false (sym l))
+  lost_end_step v P.in_cell _ c l k = absurd (true≢false (sym l))
+  lost_end_step v _ d c l k = absurd (true≢false (sym k))
 
   flow_end : (b : P.Builder) (m : P.Mode) (g : G.Group) → P.is_flow m ≡ true → has_twin g ≡ false → R.end_tag m b g name ≡ Some after → R.body_end b g name ≡ Some after
   flow_end b P.in_body g k t eq = eq
@@ -798,13 +893,13 @@ module _ (name : List ℕ) (after : P.Builder) where
   finished = B.an_end (D.group name) name
 
   pub an_end : (b : P.Builder) (c : B.Builder) → Alike b c → (n : ℕ) → R.end_tag b.mode b (G.group name) name ≡ Some after →
-      Reaches (M.mode_step (mode_is b.mode) c finished) (suc (suc (suc n))) (M.dispatch finished) after
+      Reaches (M.mode_step (mode_now c b.mode) c finished) (suc (suc (suc n))) (M.dispatch finished) after
   an_end b c h n eq = elim (cases_Bool (has_twin (G.group name))) [
-    | inl t ↦ subst (λ d. Reaches (M.mode_step (mode_is b.mode) c (B.an_end d name)) (suc (suc (suc n))) (M.dispatch (B.an_end d name)) after)
+    | inl t ↦ subst (λ d. Reaches (M.mode_step (mode_now c b.mode) c (B.an_end d name)) (suc (suc (suc n))) (M.dispatch (B.an_end d name)) after)
         (sym ((facts name).twins t)) (twin_end b c h b.mode refl (G.group name) refl t n eq)
     | inr t ↦ (
         let l = lost_end_table b h.sound b.mode refl (G.group name) t eq in
         let f = end_in_body b c h l.0 name after (inl (no_part (G.group name) t)) (flow_end b b.mode (G.group name) l.0 t eq) in
         subst (λ o. Reaches o (suc (suc (suc n))) (M.dispatch finished) after)
-        (sym (lost_end_step b.mode (D.group name) c (lost_group (G.group name) (facts name).lost (facts name).options t l.1) l.0 ∙ f.1)) f.2)
+        (sym (lost_end_step (in_caption c.context) b.mode (D.group name) c (lost_group (G.group name) (facts name).lost (facts name).options t l.1) l.0 ∙ f.1)) f.2)
   ]

@@ -8,7 +8,7 @@ use Rattle.tl_tree_spec.specs.Groups as G
 use Rattle.tl_dom_spec.specs.Tags as T
 use Rattle.tl_dom_spec.specs.Tags.{Tag, bare_tag}
 use Rattle.tl_dom_spec.specs.Groups as D
-use Rattle.tl_dom_spec.specs.Partial.{begins_in_body}
+use Rattle.tl_dom_spec.specs.Partial.{begins_in_flow}
 use Rattle.tl_dom_spec.specs.Path as W
 use Rattle.tl_dom_spec.specs.Builder as B
 use Rattle.tl_dom_spec.specs.Reset as E
@@ -16,7 +16,7 @@ use Rattle.tl_dom_spec.specs.Tables as S
 use Rattle.tl_dom_spec.proofs.PartNames.{facts, has_twin, twin}
 use Rattle.tl_dom_spec.proofs.PartPaths.{IsStack, back_is, elements_are, frame_of, frames_of, has_in, has_within, name_of, path_of, same_all, tag_of, tag_with}
 use Rattle.tl_dom_spec.proofs.PartActive.{marker_listed, without_last_marker_is}
-use Rattle.tl_dom_spec.proofs.PartBuilders.{Alike, AreNumbered, IsFlow, Like, Sound, Stand, is_flow_group, mode_is, stands_in}
+use Rattle.tl_dom_spec.proofs.PartBuilders.{Alike, AreNumbered, IsFlow, Like, Sound, Stand, first_mode, in_caption, is_caption_group, is_flow_group, mode_is, stands_in}
 use Rattle.tl_dom_spec.proofs.PartOps as O
 use Rattle.tl_dom_spec.proofs.PartSound.{agrees_marker, group_of, names_in, numbers_by, numbers_same, pushed_sound, stack_same, stand_same}
 use Rattle.tl_dom_spec.proofs.PartSources.{elements-bare, has_within-bare, mode_of-bare, popped-bare, popped_to-bare, seen, without_last_marker-bare}
@@ -39,6 +39,7 @@ flow_around G.a_table around h k = absurd (true≢false (sym h))
 flow_around G.a_table_body around h k = absurd (true≢false (sym h))
 flow_around G.a_row around h k = absurd (true≢false (sym h))
 flow_around G.a_column_group around h k = absurd (true≢false (sym h))
+flow_around G.a_column around h k = absurd (true≢false (sym k))
 flow_around G.a_cell around h k = inl refl
 flow_around G.a_caption around h k = inr (inl refl)
 flow_around _ around h k = inr (inr k)
@@ -199,7 +200,7 @@ module _ {b : P.Builder} {c : B.Builder} (h : Alike b c) where
   -- a part of a table is inserted, and the mode is that of it
   pub opened : (own : HtmlTag) (source : Option ℕ) (g : G.Group) (m : P.Mode) → G.group own.name ≡ g → has_twin g ≡ true →
       stands_in g (group_of b.stack.current) ≡ true → m ≡ P.mode_by g b.mode →
-      Alike (R.to_mode m (P.inserted b own)) (B.switch_to (mode_is m) (B.insert_element (tag_with source own) c))
+      Alike (R.to_mode m (P.inserted b own)) (B.switch_to (mode_is (in_caption c.context) m) (B.insert_element (tag_with source own) c))
   opened own source g m e twin stands k = record {
     sound = pushed_sound b own m h.sound (ap has_twin e ∙ twin) (ap (λ x. stands_in x (group_of b.stack.current)) e ∙ stands) (k ∙ ap (λ x. P.mode_by x b.mode) (sym e));
     like = O.in_mode (O.inserted h.like own source) m;
@@ -236,7 +237,7 @@ module _ {b : P.Builder} {c : B.Builder} (h : Alike b c) where
     one_mode f [] k l y = absurd (true≢false (sym y ∙ ap test k ∙ last))
     one_mode f (o ∷ os) k l y = sym (mode_around test m leads f o os l y)
 
-    pub current_popped : Alike (R.to_mode m (R.current_popped b)) (B.switch_to (mode_is m) (B.pop_current_node c))
+    pub current_popped : Alike (R.to_mode m (R.current_popped b)) (B.switch_to (mode_is (in_caption c.context) m) (B.pop_current_node c))
     current_popped =
         let s = popped_stays b.next b.active b.stack.current b.stack.others (stays b h.sound) in
         record {
@@ -254,7 +255,7 @@ module _ {b : P.Builder} {c : B.Builder} (h : Alike b c) where
   -- a cell or a caption is closed, with what it marked
   module _ (test : List ℕ → Bool) (tested : Tag → Bool) (same : (own : HtmlTag) → test own.name ≡ tested (tag_of own)) (last : test (codes "html") ≡ false)
       (m : P.Mode) (leads : Leads test m) (off : (n : List ℕ) → G.is_implied n ≡ true → test n ≡ false) (opens : R.has_in_table_scope test b ≡ true) where
-    pub marked_closed : Alike (R.marked_closed test m b) (B.switch_to (mode_is m) (B.clear_to_last_marker (B.close_except_for T.no_tag (seen tested) c)))
+    pub marked_closed : Alike (R.marked_closed test m b) (B.switch_to (mode_is (in_caption c.context) m) (B.clear_to_last_marker (B.close_except_for T.no_tag (seen tested) c)))
     marked_closed =
         let implied = P.implied_closed P.no_name b.stack.current b.stack.others in
         let s = implied_stays b.next b.active P.no_name b.stack.current b.stack.others (stays b h.sound) in
@@ -276,34 +277,35 @@ module _ {b : P.Builder} {c : B.Builder} (h : Alike b c) where
 
 -- The insertion mode is reset appropriately
 
-mode_at_by : (c : B.Builder) (g : G.Group) (m : P.Mode) → has_twin g ≡ true → E.or_mode (E.mode_at c false (twin g)) (mode_is m) ≡ mode_is (P.mode_by g m)
-mode_at_by c G.misplaced m h = absurd (true≢false (sym h))
-mode_at_by c G.an_option m h = absurd (true≢false (sym h))
-mode_at_by c G.elsewhere m h = absurd (true≢false (sym h))
-mode_at_by c _ m h = refl
+mode_at_by : (c : B.Builder) (v : Bool) (g : G.Group) (m : P.Mode) → has_twin g ≡ true → E.or_mode (E.mode_at c false (twin g)) (mode_is v m) ≡ mode_is v (P.mode_by g m)
+mode_at_by c v G.misplaced m h = absurd (true≢false (sym h))
+mode_at_by c v G.an_option m h = absurd (true≢false (sym h))
+mode_at_by c v G.elsewhere m h = absurd (true≢false (sym h))
+mode_at_by c v _ m h = refl
 
 -- where the context element decides
-pub context_mode : (c : B.Builder) (g : D.Group) → begins_in_body g ≡ true → E.or_mode (E.mode_at c true g) B.in_body ≡ B.in_body
+pub context_mode : (c : B.Builder) (g : D.Group) → begins_in_flow g ≡ true → E.or_mode (E.mode_at c true g) B.in_body ≡ first_mode (is_caption_group g)
 context_mode c D.the_html h = absurd (true≢false (sym h))
 context_mode c D.a_frameset h = absurd (true≢false (sym h))
 context_mode c D.a_template h = absurd (true≢false (sym h))
 context_mode c D.a_table h = absurd (true≢false (sym h))
-context_mode c D.a_caption h = absurd (true≢false (sym h))
+context_mode c D.a_caption h = refl
 context_mode c D.a_column_group h = absurd (true≢false (sym h))
 context_mode c D.a_table_body h = absurd (true≢false (sym h))
 context_mode c D.a_row h = absurd (true≢false (sym h))
 context_mode c _ h = refl
 
-reset_is : (c : B.Builder) → IsFlow c.context → (f : P.Frame) (os : List P.Frame) → IsStack f os →
-    E.mode_of c (map frame_of (f ∷ os)) ≡ mode_is (mode_in f os)
+reset_is : (c : B.Builder) (e : IsFlow c.context) (f : P.Frame) (os : List P.Frame) → IsStack f os →
+    E.mode_of c (map frame_of (f ∷ os)) ≡ mode_is (in_caption c.context) (mode_in f os)
 reset_is c e f [] k =
     ap (λ x. E.or_mode (E.tag_mode c true (E.last_tag x (tag_of f.element.own))) B.in_body) e.is
     ∙ context_mode c (D.group e.tag.name) e.begins
-    ∙ ap (λ n. mode_is (P.mode_by (G.group n) P.in_body)) (sym k)
+    ∙ ap (λ x. first_mode (in_caption x)) (sym e.is)
+    ∙ ap (λ n. mode_is (in_caption c.context) (P.mode_by (G.group n) P.in_body)) (sym k)
 reset_is c e f (o ∷ os) k =
     ap (E.or_mode (E.mode_at c false (D.group (name_of f)))) (reset_is c e o os k.1)
-    ∙ ap (λ g. E.or_mode (E.mode_at c false g) (mode_is (mode_in o os))) ((facts (name_of f)).twins k.0)
-    ∙ mode_at_by c (group_of f) (mode_in o os) k.0
+    ∙ ap (λ g. E.or_mode (E.mode_at c false g) (mode_is (in_caption c.context) (mode_in o os))) ((facts (name_of f)).twins k.0)
+    ∙ mode_at_by c (in_caption c.context) (group_of f) (mode_in o os) k.0
 
 pub reset : {b : P.Builder} {c : B.Builder} → Like b c → IsStack b.stack.current b.stack.others → Like (R.to_mode (P.mode_of (P.names b.stack)) b) (E.reset_insertion_mode c)
 reset {b = b} {c = c} h k = record {

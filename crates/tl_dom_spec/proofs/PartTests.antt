@@ -72,10 +72,10 @@ either true = refl
 either false = refl
 
 pub special_covers : (b : P.Builder) (n : List ℕ) → R.is_special_in b n ≡ false → is_cell_or_caption (G.group n) ≡ false
-special_covers b = covers (R.is_special_in b) (either b.counts_search, (either b.counts_search, tt)) (either b.counts_search, tt)
+special_covers b = covers (R.is_special_in b) (either b.reading.counts_search, (either b.reading.counts_search, tt)) (either b.reading.counts_search, tt)
 
 pub item_bound_covers : (b : P.Builder) (n : List ℕ) → R.is_item_bound_in b n ≡ false → is_cell_or_caption (G.group n) ≡ false
-item_bound_covers b = covers (R.is_item_bound_in b) (either b.counts_search, (either b.counts_search, tt)) (either b.counts_search, tt)
+item_bound_covers b = covers (R.is_item_bound_in b) (either b.reading.counts_search, (either b.reading.counts_search, tt)) (either b.reading.counts_search, tt)
 
 -- groups that a test holds of
 

@@ -24,18 +24,18 @@ use Rattle.tl_dom_spec.specs.Driver.{token_of}
 use Rattle.tl_dom_spec.specs.HtmlTree as H
 use Rattle.tl_dom_spec.specs.HtmlForest as F
 use Rattle.tl_dom_spec.specs.Groups as D
-use Rattle.tl_dom_spec.specs.Partial.{begins_in_body, is_flow_context, whole, without_numbers}
+use Rattle.tl_dom_spec.specs.Partial.{begins_in_flow, is_flow_context, reading_in, whole, without_numbers}
 use Rattle.tl_dom_spec.proofs.PartSources.{bare_path, html_content-bare, open-bare, popped_to-bare, put-bare, top-bare, trees-bare}
 use Rattle.tl_dom_spec.proofs.PartNames.{facts, has_twin}
 use Rattle.tl_dom_spec.proofs.PartPaths.{IsStack, elements_are, eq_suc, frame_of, frames_of, name_of, nodes_of, path_of, pops_on, stays_on, tag_of}
-use Rattle.tl_dom_spec.proofs.PartBuilders.{Alike, Like, Sound, as_html, mode_is}
+use Rattle.tl_dom_spec.proofs.PartBuilders.{Alike, Like, Sound, as_html, first_mode, in_caption, mode_is}
 use Rattle.tl_dom_spec.proofs.PartOps as O
 use Rattle.tl_dom_spec.proofs.PartSound.{character_sound}
 use Rattle.tl_dom_spec.proofs.PartBody.{character_in_body}
 use Rattle.tl_dom_spec.proofs.PartRoots.{MayHaveRoot, Rooted, root_around}
 use Rattle.tl_dom_spec.proofs.PartRoots as Roots
 use Rattle.tl_dom_spec.proofs.PartTables.{context_mode, current_at}
-use Rattle.tl_dom_spec.proofs.PartTableRules.{Reaches, a_start, again, an_end, content_of, dispatched, done, enough, more, no_answer, reaches_repeated}
+use Rattle.tl_dom_spec.proofs.PartTableRules.{Reaches, a_start, again, an_end, content_of, dispatched, done, enough, mode_now, more, no_answer, reaches_repeated}
 
 -- White space that waits
 
@@ -262,11 +262,11 @@ module _ {b : P.Builder} {c : B.Builder} (h : Alike b c) (x : ℕ) (m : is_betwe
   abbrev waiting : B.Builder
   waiting = record c { pending = x ∷ []; original = c.mode; mode = B.in_table_text }
 
-  between_step : (n : P.Mode) → is_between n ≡ true → M.mode_step (mode_is n) c (B.a_character x) ≡ S.table_character c x
-  between_step P.in_table y = refl
-  between_step P.in_table_body y = refl
-  between_step P.in_row y = refl
-  between_step _ y = absurd (true≢false (sym y))
+  between_step : (v : Bool) (n : P.Mode) → is_between n ≡ true → M.mode_step (mode_is v n) c (B.a_character x) ≡ S.table_character c x
+  between_step v P.in_table y = refl
+  between_step v P.in_table_body y = refl
+  between_step v P.in_row y = refl
+  between_step v _ y = absurd (true≢false (sym y))
 
   text_in_table : S.is_text_in_table (B.current_tag c) ≡ true
   text_in_table =
@@ -275,7 +275,7 @@ module _ {b : P.Builder} {c : B.Builder} (h : Alike b c) (x : ℕ) (m : is_betwe
       ∙ ap (λ v. v || T.is_template (tag_of b.stack.current.element.own)) (between_top b h.sound b.mode refl m)
 
   empties : M.dispatch (B.a_character x) c ≡ B.Again emptied
-  empties = dispatched h.like (B.a_character x) ∙ between_step b.mode m ∙ cond-true _ _ _ text_in_table
+  empties = dispatched h.like (B.a_character x) ∙ between_step (in_caption c.context) b.mode m ∙ cond-true _ _ _ text_in_table
 
   html_current : (token : B.Token) → M.is_html_content (B.adjusted_current_node emptied) token ≡ true
   html_current token =
@@ -341,7 +341,7 @@ module _ (x n : ℕ) (after : P.Builder) where
 
   -- where the rules are those of "in body"
   flow_character : (b : P.Builder) (c : B.Builder) → Alike b c → P.is_flow b.mode ≡ true →
-      (M.mode_step (mode_is b.mode) c (B.a_character x) ≡ B.Done (Body.body_character x c)) →
+      (M.mode_step (mode_now c b.mode) c (B.a_character x) ≡ B.Done (Body.body_character x c)) →
       Some (if x == 0 then b else P.with_character (P.reconstructed b) x) ≡ Some after → Goes after (taken c)
   flow_character b c h k same eq =
       inl (reaches_repeated 8 n by_character (B.Again c) after (again h (B.a_character x) 7 after
@@ -351,7 +351,7 @@ module _ (x n : ℕ) (after : P.Builder) where
   column_character : (b : P.Builder) (c : B.Builder) → Alike b c → b.mode ≡ P.in_column_group → (if is_ascii_whitespace x then Some (P.with_character b x) else None) ≡ Some after → Goes after (taken c)
   column_character b c h m eq = elim (cases_Bool (is_ascii_whitespace x)) [
     | inl y ↦ inl (reaches_repeated 8 n by_character (B.Again c) after (again h (B.a_character x) 7 after
-        (subst (λ o. Reaches o 7 by_character after) (sym (ap (λ k. M.mode_step (mode_is k) c (B.a_character x)) m ∙ cond-true _ _ _ y))
+        (subst (λ o. Reaches o 7 by_character after) (sym (ap (λ k. M.mode_step (mode_now c k) c (B.a_character x)) m ∙ cond-true _ _ _ y))
         (done (sym (cond-true _ _ _ y) ∙ eq) (record { sound = character_sound b x h.sound; like = O.character h.like x })))))
     | inr z ↦ absurd (no_answer after (sym (cond-false _ _ _ z) ∙ eq))
   ]
@@ -364,9 +364,14 @@ module _ (x n : ℕ) (after : P.Builder) where
   ]
 
   alike_character : (b : P.Builder) (c : B.Builder) → Alike b c → (m : P.Mode) → b.mode ≡ m → R.a_character (P.is_flow m) b x ≡ Some after → Goes after (taken c)
-  alike_character b c h P.in_body m eq = flow_character b c h (ap P.is_flow m) (ap (λ k. M.mode_step (mode_is k) c (B.a_character x)) m) eq
-  alike_character b c h P.in_caption m eq = flow_character b c h (ap P.is_flow m) (ap (λ k. M.mode_step (mode_is k) c (B.a_character x)) m) eq
-  alike_character b c h P.in_cell m eq = flow_character b c h (ap P.is_flow m) (ap (λ k. M.mode_step (mode_is k) c (B.a_character x)) m) eq
+  alike_character b c h P.in_body m eq =
+      flow_character b c h (ap P.is_flow m) (ap (λ k. M.mode_step (mode_now c k) c (B.a_character x)) m ∙ first_character (in_caption c.context)) eq
+    where
+      first_character : (v : Bool) → M.mode_step (first_mode v) c (B.a_character x) ≡ B.Done (Body.body_character x c)
+      first_character true = refl
+      first_character false = refl
+  alike_character b c h P.in_caption m eq = flow_character b c h (ap P.is_flow m) (ap (λ k. M.mode_step (mode_now c k) c (B.a_character x)) m) eq
+  alike_character b c h P.in_cell m eq = flow_character b c h (ap P.is_flow m) (ap (λ k. M.mode_step (mode_now c k) c (B.a_character x)) m) eq
   alike_character b c h P.in_column_group m eq = column_character b c h m eq
   alike_character b c h P.in_table m eq = between_character b c h (ap is_between m) eq
   alike_character b c h P.in_table_body m eq = between_character b c h (ap is_between m) eq
@@ -441,24 +446,24 @@ tokens_go (token ∷ tokens) b c h after eq =
 
 -- The beginning
 
--- a flow context, as a context of HTML outside of quirks mode
+-- a flow context, as a context of HTML
 abbrev flow : H.Context → H.Context
-flow context = record context { tag = as_html context.tag; is_quirks = false }
+flow context = record context { tag = as_html context.tag }
 
-flow_html : (context : H.Context) → T.is_html context.tag ≡ true → context.is_quirks ≡ false → context ≡ flow context
-flow_html context h q = ap₂ (λ (s : T.Namespace) (v : Bool). record context { tag = record context.tag { space = s }; is_quirks = v }) (of_html context.tag.space h) q
+flow_html : (context : H.Context) → T.is_html context.tag ≡ true → context ≡ flow context
+flow_html context h = ap (λ (s : T.Namespace). record context { tag = record context.tag { space = s } }) (of_html context.tag.space h)
   where
     of_html : (s : T.Namespace) → T.by_space s true false false ≡ true → s ≡ T.html_space
     of_html T.html_space h = refl
     of_html T.math_space h = absurd (true≢false (sym h))
     of_html T.svg_space h = absurd (true≢false (sym h))
 
-no_template_around : (t : T.Tag) → begins_in_body (D.group t.name) ≡ true → T.is_template (as_html t) ≡ false
+no_template_around : (t : T.Tag) → begins_in_flow (D.group t.name) ≡ true → T.is_template (as_html t) ≡ false
 no_template_around t h =
     ap (λ v. v || false)
-    (false_from_ne_true (bytes_eq t.name (codes "template")) (λ y. true≢false (sym h ∙ ap (λ m. begins_in_body (D.group m)) ((bytes_eq-Decides t.name (codes "template")).0 y))))
+    (false_from_ne_true (bytes_eq t.name (codes "template")) (λ y. true≢false (sym h ∙ ap (λ m. begins_in_flow (D.group m)) ((bytes_eq-Decides t.name (codes "template")).0 y))))
 
-pub starts_alike : (context : H.Context) → begins_in_body (D.group context.tag.name) ≡ true → (v : Bool) → Alike (R.fragment v) (H.fragment_start (record H.standard { counts_search = v }) (flow context))
+pub starts_alike : (context : H.Context) → begins_in_flow (D.group context.tag.name) ≡ true → (v : Bool) → Alike (R.fragment (reading_in context v)) (H.fragment_start (record H.standard { counts_search = v }) (flow context))
 starts_alike context h v = record {
   sound = record { stack = refl; stand = tt; entries = tt; numbers = ((let z : 0 < 1 = omega arith in z), tt, tt); mode = refl };
   like = record {
@@ -499,17 +504,18 @@ ended {b = b} {c = c} h =
     ∙ ap (W.within (W.has_tag T.is_template) W.no_frame) (elements_are (frames_of b.stack))
     ∙ no_template b.stack.current b.stack.others h.sound.stack)
 
-end_step : (m : P.Mode) (c : B.Builder) → M.mode_step (mode_is m) c B.end_of_file ≡ Body.file_ended c
-end_step P.in_body c = refl
-end_step P.in_table c = refl
-end_step P.in_caption c = refl
-end_step P.in_column_group c = refl
-end_step P.in_table_body c = refl
-end_step P.in_row c = refl
-end_step P.in_cell c = refl
+end_step : (v : Bool) (m : P.Mode) (c : B.Builder) → M.mode_step (mode_is v m) c B.end_of_file ≡ Body.file_ended c
+end_step true P.in_body c = refl
+end_step false P.in_body c = refl
+end_step v P.in_table c = refl
+end_step v P.in_caption c = refl
+end_step v P.in_column_group c = refl
+end_step v P.in_table_body c = refl
+end_step v P.in_row c = refl
+end_step v P.in_cell c = refl
 
 end_reaches : (b : P.Builder) (c : B.Builder) → Alike b c → (n : ℕ) → Reaches (B.Again c) (suc n) (M.dispatch B.end_of_file) b
-end_reaches b c h n = again h B.end_of_file n b (subst (λ o. Reaches o n (M.dispatch B.end_of_file) b) (sym (end_step b.mode c ∙ ended h)) h)
+end_reaches b c h n = again h B.end_of_file n b (subst (λ o. Reaches o n (M.dispatch B.end_of_file) b) (sym (end_step (in_caption c.context) b.mode c ∙ ended h)) h)
 
 file_reaches : (b : P.Builder) (c : B.Builder) → Goes b c → (n : ℕ) → Alike b (B.repeated (more 8 n) (M.dispatch B.end_of_file) (B.Again c))
 file_reaches b c (inl h) n = reaches_repeated 8 n (M.dispatch B.end_of_file) (B.Again c) b (end_reaches b c h 7)
@@ -563,14 +569,14 @@ trees_are b c h r =
     ∙ ap (λ p. H.trees_in (W.top p)) (popped_to-bare (W.has_number 1) (W.has_number 1) (λ _. refl) c.path)
     ∙ ap (λ p. H.trees_in (W.top (W.popped_to (W.has_number 1) p))) h.path ∙ root_from b.stack.current b.stack.current b.stack.others r
 
-in_flow : (context : H.Context) → begins_in_body (D.group context.tag.name) ≡ true → (v : Bool) (tokens : List HtmlToken) (forest : HtmlForest) → R.html_trees_where v tokens ≡ Some forest →
+in_flow : (context : H.Context) → begins_in_flow (D.group context.tag.name) ≡ true → (v : Bool) (tokens : List HtmlToken) (forest : HtmlForest) → R.html_trees_where (reading_in context v) tokens ≡ Some forest →
     without_numbers (H.fragment_of_tokens (record H.standard { counts_search = v }) (flow context) tokens) ≡ whole forest
-in_flow context h v tokens forest eq = by_run (R.run (Some (R.fragment v)) tokens) refl (Roots.run tokens (Some (R.fragment v)) (refl, refl)) eq
+in_flow context h v tokens forest eq = by_run (R.run (Some (R.fragment (reading_in context v))) tokens) refl (Roots.run tokens (Some (R.fragment (reading_in context v))) (refl, refl)) eq
   where
     forest_same : {x y : HtmlForest} → Some x ≡ Some y → x ≡ y
     forest_same e = cc
 
-    by_run : (o : Option P.Builder) → R.run (Some (R.fragment v)) tokens ≡ o → MayHaveRoot o → option_map R.trees_of o ≡ Some forest →
+    by_run : (o : Option P.Builder) → R.run (Some (R.fragment (reading_in context v))) tokens ≡ o → MayHaveRoot o → option_map R.trees_of o ≡ Some forest →
         without_numbers (H.fragment_of_tokens (record H.standard { counts_search = v }) (flow context) tokens) ≡ whole forest
     by_run None e r k = absurd (true≢false (sym (ap is_forest k)))
       where
@@ -579,28 +585,26 @@ in_flow context h v tokens forest eq = by_run (R.run (Some (R.fragment v)) token
         is_forest (Some x) = true
     by_run (Some after) e r k =
         let start : B.Builder = H.fragment_start (record H.standard { counts_search = v }) (flow context) in
-        let goes = tokens_go tokens (R.fragment v) start (inl (starts_alike context h v)) after e in
+        let goes = tokens_go tokens (R.fragment (reading_in context v)) start (inl (starts_alike context h v)) after e in
         let ends = file_goes after (M.tokens_done start (map token_of tokens)) goes in
         trees_are (R.calm after) (M.token_done (M.tokens_done start (map token_of tokens)) B.end_of_file) ends.like r.1 ∙ ap whole (forest_same k)
 
 -- what a flow context is
 pub record IsFlowContext (context : H.Context) : Type 0 where
   pub html : T.is_html context.tag ≡ true
-  pub quirks : context.is_quirks ≡ false
-  pub begins : begins_in_body (D.group context.tag.name) ≡ true
+  pub begins : begins_in_flow (D.group context.tag.name) ≡ true
   pub markup : is_raw context.tag.name ≡ false
 
 pub flow_is : (context : H.Context) → is_flow_context context ≡ true → IsFlowContext context
 flow_is context h =
-    let p = and_parts (T.is_html context.tag && not context.is_quirks) (begins_in_body (D.group context.tag.name) && not (is_raw context.tag.name)) h in
-    let q = and_parts (T.is_html context.tag) (not context.is_quirks) p.0 in
-    let r = and_parts (begins_in_body (D.group context.tag.name)) (not (is_raw context.tag.name)) p.1 in
-    record { html = q.0; quirks = not-true context.is_quirks q.1; begins = r.0; markup = not-true (is_raw context.tag.name) r.1 }
+    let p = and_parts (T.is_html context.tag) (begins_in_flow (D.group context.tag.name) && not (is_raw context.tag.name)) h in
+    let r = and_parts (begins_in_flow (D.group context.tag.name)) (not (is_raw context.tag.name)) p.1 in
+    record { html = p.0; begins = r.0; markup = not-true (is_raw context.tag.name) r.1 }
 
 -- where the partial builder has an outcome, the whole one has the same trees in each such context element
-pub partial_is_whole : (context : H.Context) (v : Bool) (tokens : List HtmlToken) (forest : HtmlForest) → is_flow_context context ≡ true → R.html_trees_where v tokens ≡ Some forest →
+pub partial_is_whole : (context : H.Context) (v : Bool) (tokens : List HtmlToken) (forest : HtmlForest) → is_flow_context context ≡ true → R.html_trees_where (reading_in context v) tokens ≡ Some forest →
     without_numbers (H.fragment_of_tokens (record H.standard { counts_search = v }) context tokens) ≡ whole forest
 partial_is_whole context v tokens forest h eq =
     let f = flow_is context h in
-    ap (λ x. without_numbers (H.fragment_of_tokens (record H.standard { counts_search = v }) x tokens)) (flow_html context f.html f.quirks)
+    ap (λ x. without_numbers (H.fragment_of_tokens (record H.standard { counts_search = v }) x tokens)) (flow_html context f.html)
     ∙ in_flow context f.begins v tokens forest eq

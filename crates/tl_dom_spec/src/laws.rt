@@ -13,7 +13,7 @@ ghost use Rattle.tl_dom_spec.specs.HtmlForest.{has_contents};
 ghost use Rattle.tl_dom_spec.specs.HtmlTree.{Context, context_state, fragment_of_tokens, fragment_read, fragment_start, html_fragment_by, html_tree_by, page_read, page_start, standard, tree_of_tokens};
 ghost use Rattle.tl_dom_spec.specs.Lawful.{AreNamed, AreNumberedBelow, AreTexts, AreVoidEmpty, ComeFrom, HaveHtmlDoctypes, HaveNames, HavePlainNames, IsDoneWith, IsPage, IsSteady, all_numbered, driven_by_names, fragment_built, is_done_within, page_built, tokens_of_fragment, tokens_of_page, EachCharacter};
 ghost use Rattle.tl_dom_spec.specs.Formatting.{reconstruct_formatting};
-ghost use Rattle.tl_dom_spec.specs.Partial.{is_flow_context, whole, without_numbers};
+ghost use Rattle.tl_dom_spec.specs.Partial.{is_flow_context, reading_in, whole, without_numbers};
 ghost use Rattle.tl_dom_spec.specs.Runs.{is_of_run, kind_of, run_taken};
 ghost use Rattle.tl_dom_spec.specs.Tags.{Tag, html_space, is_html};
 
@@ -132,14 +132,14 @@ pub fn bound_suffices()
 {}
 
 /// Where the partial builder of `tl_tree_spec` has an outcome, the whole definition has the same
-/// trees, in each context element in which flow content is read (`is_flow_context`), whether
-/// `search` is a special element or not: but for the numbers of marks, which partial trees don't
-/// have.
+/// trees, in each context element in which flow content is read (`is_flow_context`), in quirks mode
+/// and not, whether `search` is a special element or not: but for the numbers of marks, which
+/// partial trees don't have.
 #[tactic(auto, using(crate::proofs::PartTrees::partial_is_whole))]
 pub fn partial_trees_are_whole()
     ensures { (context : Context) (counts_search : Bool) (tokens : List HtmlToken)
         (forest : HtmlForest) → is_flow_context context ≡ true →
-        html_trees_where counts_search tokens ≡ Some forest →
+        html_trees_where (reading_in context counts_search) tokens ≡ Some forest →
         without_numbers
         (fragment_of_tokens (record standard { counts_search = counts_search })
         context tokens) ≡ whole forest }

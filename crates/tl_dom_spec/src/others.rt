@@ -103,11 +103,11 @@ pub fn after_after_frameset()
 
 /// Context elements in which flow content is read as such.
 pub fn flow_contexts()
-    ensures flow { list_all is_flow (words (codes "body div main section article aside nav header footer address blockquote li dd dt figure figcaption fieldset details dialog td th p h1 span a b ins del button form object noscript svg")) ≡ true }
-    ensures others { list_any is_flow (words (codes "html frameset template table caption colgroup thead tbody tfoot tr title textarea style xmp iframe noembed noframes script plaintext")) ≡ false }
+    ensures flow { list_all is_flow (words (codes "body div main section article aside nav header footer address blockquote li dd dt figure figcaption fieldset details dialog caption td th p h1 span a b ins del button form object noscript svg")) ≡ true }
+    ensures others { list_any is_flow (words (codes "html frameset template table colgroup thead tbody tfoot tr title textarea style xmp iframe noembed noframes script plaintext")) ≡ false }
     ensures foreign { is_flow_context (context_named svg_space "div") ≡ false }
     ensures quirks { let div = context_named html_space "div" in
-        is_flow_context (record div { is_quirks = true }) ≡ false }
+        is_flow_context (record div { is_quirks = true }) ≡ true }
     ensures form { let cell = context_named html_space "td" in
         is_flow_context (record cell { is_in_form = true }) ≡ true }
 {}

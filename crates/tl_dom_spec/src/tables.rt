@@ -61,6 +61,7 @@ pub fn in_caption()
     ensures row_in_caption { in_body "<table><caption>a<tr>" ≡ codes "<table>[<caption>['a']<tbody>[<tr>]]" }
     ensures cell_in_caption { in_body "<table><caption>a<td>b" ≡ codes "<table>[<caption>['a']<tbody>[<tr>[<td>['b']]]]" }
     ensures cell_in_a_caption_fragment { inside "caption" "<td>a" ≡ codes "'a'" }
+    ensures table_in_a_caption_fragment { inside "caption" "<table><caption>a</table><td>b</table>c" ≡ codes "<table>[<caption>['a']]'bc'" }
     ensures table_end_tag { in_body "<table><caption>a</table>b" ≡ codes "<table>[<caption>['a']]'b'" }
     ensures end_tags_that_are_ignored { in_body "<table><caption>a</body></col></colgroup></html></tbody></td></tr>b" ≡ codes "<table>[<caption>['ab']]" }
     ensures anything_else { in_body "<table><caption><p>a<p>b<!--c-->" ≡ codes "<table>[<caption>[<p>['a']<p>['b'<!--c-->]]]" }

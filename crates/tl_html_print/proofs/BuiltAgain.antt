@@ -14,7 +14,7 @@ use Rattle.tl_dom_spec.specs.HtmlTree.{Context, context_state, fragment_of_token
 use Rattle.tl_dom_spec.specs.Lawful.{HaveHtmlDoctypes, HavePlainNames, driven_by_names, is_plain_name}
 use Rattle.tl_dom_spec.specs.Lawful as L
 use Rattle.tl_dom_spec.specs.Marks.{Marked, unmarked}
-use Rattle.tl_dom_spec.specs.Partial.{is_flow_context, unnumbered, whole, without_numbers}
+use Rattle.tl_dom_spec.specs.Partial.{is_flow_context, reading_in, unnumbered, whole, without_numbers}
 use Rattle.tl_dom_spec.specs.Tags.{Attribute, Tag, html_tag, is_html, plain_attribute}
 use Rattle.tl_html_print.proofs.PagePlaces.{at_place, each_written, outer_is}
 use Rattle.tl_html_print.proofs.PageReads.{can_be, listed}
@@ -34,11 +34,10 @@ use Rattle.tl_html_spec.specs.Sound.{IsSome}
 use Rattle.tl_spec.specs.Lex.ByteClass as C
 use Rattle.tl_spec.specs.Tree.Forest.{comment, none, tag, text}
 use Rattle.tl_tree_spec.proofs.Texts.{normal}
-use Rattle.tl_tree_spec.proofs.Trees.{stays, stays_without_search}
+use Rattle.tl_tree_spec.proofs.Trees.{stays_where}
 use Rattle.tl_tree_spec.specs.Builder.{is_flow, mode_of}
 use Rattle.tl_tree_spec.specs.Groups.{Group, elsewhere, group, misplaced}
 use Rattle.tl_tree_spec.specs.HtmlForest.{HtmlForest, HtmlTag, begins_with_text, html_tokens_of, is_empty, is_normal, normal_form}
-use Rattle.tl_tree_spec.specs.HtmlTreeBuilder.{html_trees_where}
 use Rattle.tl_tree_spec.specs.Stays.{is_alone, is_none, is_preformatted, begins_line, may_be_read, may_stand, stands, stay}
 
 -- Numbers of start tags are not printed
@@ -265,10 +264,6 @@ html_doctypes (plain DoctypeToken ∷ es) h = absurd h
 
 -- The trees
 
-trees_where : (v : Bool) (f : HtmlForest) → stay (codes "html" ∷ []) f ≡ true → html_trees_where v (html_tokens_of f) ≡ Some (normal_form f)
-trees_where true f h = stays f h
-trees_where false f h = stays_without_search f h ∙ stays f h
-
 in_page : (bytes : List ℕ) → tokens_of (at data_state) bytes ≡ tokens_in_page bytes
 in_page bytes = feeds_read false data_state bytes ∙ ap (λ t. tokens_from data_state (with_feeds t)) (all_stays bytes)
 
@@ -301,7 +296,7 @@ built_joined context k v trees f e c l h =
     let doctypes = html_doctypes (driven_by_names print) (subst HaveNoDoctype (sym (named_tokens print ∙ read)) (no_doctype f)) in
     ap without_numbers (bare_fragment (by v) context print flow.html (begins_in_data v context flow.markup) named doctypes)
     ∙ ap (λ ts. without_numbers (fragment_of_tokens (by v) context ts)) read
-    ∙ partial_is_whole context v (html_tokens_of f) (normal_form f) k (trees_where v f h)
+    ∙ partial_is_whole context v (html_tokens_of f) (normal_form f) k (stays_where (reading_in context v) f h)
 
 pub built_again : (context : Context) → is_flow_context context ≡ true → (v : Bool) (trees : D.HtmlForest) (f : HtmlForest) → without_numbers trees ≡ whole f → CanBeReadAgain trees → AreLow f → stay (codes "html" ∷ []) f ≡ true → is_normal f ≡ true → without_numbers (built_in context v (serialized false None trees)) ≡ without_numbers trees
 built_again context k v trees f e c l h n = built_joined context k v trees f e c l h ∙ ap whole (normal f n) ∙ sym e

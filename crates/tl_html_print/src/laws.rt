@@ -119,8 +119,8 @@ pub fn texts_end_themselves_exactly()
 {}
 
 /// Where the trees of a fragment stay (`stay` of `tl_tree_spec`) and are read again, the standard
-/// builds of their print just these trees in each context element of flow content (`around`), but
-/// for the numbers of start tags; and so of the print of a node of a page.
+/// builds of their print just these trees in each context element of flow content (`around`), in
+/// quirks mode and not, but for the numbers of start tags; and so of the print of a node of a page.
 pub fn prints_are_built_again()
     ensures fragment { (around : Context) (counts_search : Bool) (flags : Flags)
         (context : Context) (bytes : List ℕ) (f : PartialForest) →

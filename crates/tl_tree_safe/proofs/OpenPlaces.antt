@@ -35,7 +35,7 @@ use Rattle.tl_tree_safe.specs.OwnKeys.{HaveOwnKeys}
 use Rattle.tl_tree_safe.specs.Settled as Settled
 use Rattle.tl_tree_safe.specs.Settled.{is_settled_inside, settled}
 use Rattle.tl_tree_spec.proofs.Places.{names_placed, stays_placed}
-use Rattle.tl_tree_spec.specs.Builder.{Mode, is_flow, mode_by, mode_of, names, within}
+use Rattle.tl_tree_spec.specs.Builder.{Mode, Reading, is_flow, mode_by, mode_of, names, within}
 use Rattle.tl_tree_spec.specs.Groups as G
 use Rattle.tl_tree_spec.specs.Groups.{Group, group, is_description, is_heading, is_implied, is_item, is_paragraph}
 use Rattle.tl_tree_spec.specs.HtmlForest.{HtmlForest, HtmlTag, html_tokens_of, normal_form}
@@ -260,20 +260,20 @@ whole-back (tag own children more) =
     ap (λ ps. tag (record own { attributes = ps }) (partial (whole children)) (partial (whole more))) (pair-back own.attributes)
     ∙ ap₂ (λ (c m : HtmlForest). tag own c m) (whole-back children) (whole-back more)
 
-pub puts : (v : Bool) (tags : List HtmlTag) (p : ListedWords) (trees : D.HtmlForest) (g : HtmlForest) → lists_words p ≡ true → HaveOwnKeys trees →
-    is_open_place (map (λ (own : HtmlTag). own.name) tags ++ at_top) ≡ true → without_numbers (texts_joined (kept_fitted p trees)) ≡ whole g → Puts (placed v tags) (tokens_of (at data_state) (print_of p trees)) g
-puts v tags p trees g l h k e =
+pub puts : (reading : Reading) (tags : List HtmlTag) (p : ListedWords) (trees : D.HtmlForest) (g : HtmlForest) → lists_words p ≡ true → HaveOwnKeys trees →
+    is_open_place (map (λ (own : HtmlTag). own.name) tags ++ at_top) ≡ true → without_numbers (texts_joined (kept_fitted p trees)) ≡ whole g → Puts (placed reading tags) (tokens_of (at data_state) (print_of p trees)) g
+puts reading tags p trees g l h k e =
     let f = kept_fitted p trees in
     let o = safe.own p trees l h in
     let s = settled-stay at_top f (safe.stands p trees) in
-    let ns : Names = names (placed v tags).stack in
+    let ns : Names = names (placed reading tags).stack in
     let is : normal_form (partial f) ≡ g =
     sym (joined-same f)
     ∙ sym (whole-back (partial (texts_joined f)))
     ∙ ap partial (whole-same p (texts_joined f) (joined-own p f o) ∙ e)
     ∙ whole-back g in
-    let there : Puts (placed v tags) (html_tokens_of (partial f)) (normal_form (partial f)) = stays_placed v tags (partial f) (stays_there ns (open_is ns (ap is_open_place (names_placed v tags) ∙ k)) [] (partial f) s) in
-    subst (λ ts. Puts (placed v tags) ts g) (sym (tokens_are p trees l h)) (subst (λ x. Puts (placed v tags) (html_tokens_of (partial f)) x) is there)
+    let there : Puts (placed reading tags) (html_tokens_of (partial f)) (normal_form (partial f)) = stays_placed reading tags (partial f) (stays_there ns (open_is ns (ap is_open_place (names_placed reading tags) ∙ k)) [] (partial f) s) in
+    subst (λ ts. Puts (placed reading tags) ts g) (sym (tokens_are p trees l h)) (subst (λ x. Puts (placed reading tags) (html_tokens_of (partial f)) x) is there)
 
 -- What is read as it is written
 

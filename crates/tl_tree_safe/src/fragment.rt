@@ -88,7 +88,7 @@ pub fn sanitize_fragment(
         ++ tokens_of (at data_state) rest) }
 
     // The standard's tree construction builds exactly its trees in each context element of flow
-    // content, as `div`, `body`, `li` and `td`.
+    // content, as `div`, `body`, `li` and `td`, in quirks mode and not.
     ensures built { (context : ContextElement) (counts_search : Bool) →
         is_flow_context context ≡ true → IfOk result (λ page.
         without_numbers (built_in context counts_search page.items)

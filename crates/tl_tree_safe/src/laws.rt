@@ -23,6 +23,7 @@ ghost use Rattle.tl_tree_safe.specs.Lists.{ListedWords, lists_words};
 ghost use Rattle.tl_tree_safe.specs.OpenPlaces.{AreAround, Around, back, front, is_open_place, names_in, put};
 ghost use Rattle.tl_tree_safe.specs.OwnKeys.{HaveOwnKeys};
 ghost use Rattle.tl_tree_safe.specs.Settled.{settled};
+ghost use Rattle.tl_tree_spec.specs.Builder.{Reading};
 ghost use Rattle.tl_tree_spec.specs.Groups.{group};
 ghost use Rattle.tl_tree_spec.specs.HtmlForest.{HtmlForest as PartialForest, HtmlTag};
 ghost use Rattle.tl_tree_spec.specs.Places.{Puts, placed};
@@ -69,8 +70,8 @@ pub fn pages_have_own_keys()
 /// Of what is printed of any trees, of what a policy keeps of them and made to stay: the tokenizer
 /// of the standard reads exactly its tags and texts, and then what follows it; its tree
 /// construction builds exactly these trees in each context element of flow content, with texts that
-/// stand side by side joined, but for the numbers of start tags, whether `search` is a special
-/// element or not; and all that is read is listed.
+/// stand side by side joined, but for the numbers of start tags, in quirks mode and not, whether
+/// `search` is a special element or not; and all that is read is listed.
 #[tactic(auto, using(crate::proofs::Safe::read, crate::proofs::Safe::built, crate::proofs::Safe::listed))]
 pub fn kept_trees_that_are_fitted_stay()
     ensures read { (p : ListedWords) (trees : HtmlForest) (rest : List ℕ) →
@@ -90,7 +91,7 @@ pub fn kept_trees_that_are_fitted_stay()
 {}
 
 /// Where elements are open whose names are an open place (`is_open_place`), such a print is read as
-/// these trees there, whether `search` is a special element or not.
+/// these trees there, in quirks mode and not, whether `search` is a special element or not.
 ///
 /// `built`: put at an open place into markup that is settled and read as it is written
 /// (`AreAround`), in any context element of flow content: the whole tree construction builds that
@@ -110,11 +111,11 @@ pub fn prints_go_where_they_are_put()
     ensures text { (around : List Around) (trees : HtmlForest) → AreAround around →
         serialized false None (put around trees)
         ≡ front around ++ (serialized false None trees ++ back around) }
-    ensures put { (counts_search : Bool) (tags : List HtmlTag) (p : ListedWords)
+    ensures put { (reading : Reading) (tags : List HtmlTag) (p : ListedWords)
         (trees : HtmlForest) (kept : PartialForest) →
         lists_words p ≡ true → HaveOwnKeys trees →
         is_open_place (map (λ own. own.name) tags ++ at_top) ≡ true →
         without_numbers (texts_joined (kept_fitted p trees)) ≡ whole kept →
-        Puts (placed counts_search tags)
+        Puts (placed reading tags)
         (tokens_of (at data_state) (serialized false None (kept_fitted p trees))) kept }
 {}

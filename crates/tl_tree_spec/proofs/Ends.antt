@@ -6,7 +6,7 @@ use Rattle.std.proofs.lemmas.Bool.{and_left, and_right, or_left}
 use Rattle.std.proofs.lemmas.Slice.Eq.{bytes_eq-Decides}
 use Rattle.tl_html_spec.specs.Balanced.{is_button_scope, is_list_scope, is_scope}
 use Rattle.tl_tree_spec.specs.Groups.{Group, a_block, a_break, a_button, a_caption, a_cell, a_column, a_column_group, a_description, a_detail, a_format, a_heading, a_mark, a_nobr, a_paragraph, a_preformatted, a_row, a_ruby_base, a_ruby_text, a_rule, a_table, a_table_body, a_void, an_anchor, an_image, an_item, an_option, any_other, elsewhere, group, is_body_context, is_caption, is_caption_group, is_column_group, is_column_group_group, is_heading, is_heading_group, is_implied, is_implied_group, is_item, is_item_group, is_paragraph, is_paragraph_group, is_part, is_row, is_row_context, is_row_group, is_table, is_table_body, is_table_body_group, is_table_group, is_table_scope, misplaced}
-use Rattle.tl_tree_spec.specs.Builder.{Builder, Element, Entry, Frame, Mode, Nodes, Stack, alone, closed_into, closed_through, formatting, has_name, has_number, in_body, in_caption, in_cell, in_column_group, in_row, in_table, in_table_body, is_flow, is_listed, listed, mode_by, mode_of, names, no_name, popped, popped_through, unlisted, with_stack, within, without_last_marker}
+use Rattle.tl_tree_spec.specs.Builder.{Builder, Element, Entry, Frame, Mode, Nodes, Reading, Stack, alone, closed_into, closed_through, formatting, has_name, has_number, in_body, in_caption, in_cell, in_column_group, in_row, in_table, in_table_body, is_flow, is_listed, listed, mode_by, mode_of, names, no_name, popped, popped_through, unlisted, with_stack, within, without_last_marker}
 use Rattle.tl_tree_spec.specs.HtmlTreeBuilder.{adopted, adoption, body_end, caption_end, cell_end, cleared, current_popped, end_tag, has_furthest_block, has_in_table_scope, is_special_in, table_closed, to_mode}
 use Rattle.tl_tree_spec.specs.Stays.{is_alone, is_mark, stands, stands_in_flow}
 use Rattle.tl_tree_spec.proofs.Active.{Ordered, Sound, is_active, kept, marked, not_listed, over, same_number, skipped}
@@ -35,15 +35,15 @@ close_current but test f outer others i t =
 abbrev pub popped_to : Frame → Frame → List Frame → Stack
 popped_to f outer others = record { current = closed_into outer f; others = others }
 
-module _ (counts : Bool) where
+module _ (reading : Reading) where
   -- where the builder stands before an end tag
   abbrev pub inside : Frame → Frame → List Frame → List Entry → ℕ → Mode → Builder
   inside f outer others entries k m =
-      record { stack = record { current = f; others = outer ∷ others }; active = entries; next = k; skips = false; mode = m; counts_search = counts }
+      record { stack = record { current = f; others = outer ∷ others }; active = entries; next = k; skips = false; mode = m; reading = reading }
 
   abbrev pub outside : Frame → Frame → List Frame → List Entry → ℕ → Mode → Builder
   outside f outer others entries k m =
-      record { stack = popped_to f outer others; active = entries; next = k; skips = false; mode = m; counts_search = counts }
+      record { stack = popped_to f outer others; active = entries; next = k; skips = false; mode = m; reading = reading }
 
   module _ (f outer : Frame) (others : List Frame) (entries : List Entry) (k : ℕ) (m : Mode) where
     closes : (but test stops : List ℕ → Bool) (other : Builder) →
@@ -216,20 +216,20 @@ entries_left a_cell entries = without_last_marker entries
 entries_left a_caption entries = without_last_marker entries
 entries_left _ entries = entries
 
-module _ (counts : Bool) (f outer : Frame) (others : List Frame) (entries : List Entry) (k : ℕ) where
+module _ (reading : Reading) (f outer : Frame) (others : List Frame) (entries : List Entry) (k : ℕ) where
   -- names outside of it, and the mode there
   abbrev pub around : List (List ℕ)
   around = names (popped_to f outer others)
 
   abbrev pub here : Mode → Builder
-  here m = inside counts f outer others entries k m
+  here m = inside reading f outer others entries k m
 
   in_scope : (test : List ℕ → Bool) (m : Mode) → test f.element.own.name ≡ true → has_in_table_scope test (here m) ≡ true
   in_scope test m h = within_first test is_table_scope f.element.own.name (map (λ (e : Element). e.own.name) (map (λ (g : Frame). g.element) (outer ∷ others))) h
 
   abbrev pub ends_so : Group → Type 0
   ends_so g = end_tag (mode_by g (mode_of around)) (here (mode_by g (mode_of around))) g f.element.own.name
-      ≡ Some (outside counts f outer others (entries_left g entries) k (mode_of around))
+      ≡ Some (outside reading f outer others (entries_left g entries) k (mode_of around))
 
   table-end : is_table f.element.own.name ≡ true → ends_so a_table
   table-end h =
@@ -239,11 +239,11 @@ module _ (counts : Bool) (f outer : Frame) (others : List Frame) (entries : List
 
   marked-end : (test : List ℕ → Bool) (m from : Mode) → is_implied f.element.own.name ≡ false → test f.element.own.name ≡ true → mode_of around ≡ m →
       Some (if has_in_table_scope test (here from) then record (here from) { stack = closed_through no_name test (here from).stack; active = without_last_marker entries; mode = m } else here from)
-      ≡ Some (outside counts f outer others (without_last_marker entries) k (mode_of around))
+      ≡ Some (outside reading f outer others (without_last_marker entries) k (mode_of around))
   marked-end test m from i h e =
       ap (λ (x : Bool). Some (if x then record (here from) { stack = closed_through no_name test (here from).stack; active = without_last_marker entries; mode = m } else here from)) (in_scope test from h)
       ∙ ap (λ (s : Stack). let b : Builder = record (here from) { stack = s; active = without_last_marker entries; mode = m } in Some b) (close_current no_name test f outer others (and_left (is_implied f.element.own.name) true i) h)
-      ∙ ap (λ (x : Mode). Some (outside counts f outer others (without_last_marker entries) k x)) (sym e)
+      ∙ ap (λ (x : Mode). Some (outside reading f outer others (without_last_marker entries) k x)) (sym e)
 
   caption-end : is_caption f.element.own.name ≡ true → is_implied f.element.own.name ≡ false → mode_of around ≡ in_table → ends_so a_caption
   caption-end h i e = marked-end is_caption in_table in_caption i h e
@@ -255,18 +255,18 @@ module _ (counts : Bool) (f outer : Frame) (others : List Frame) (entries : List
   row-end h e =
       ap (λ (x : Bool). Some (if x then to_mode in_table_body (current_popped (cleared is_row_context (here in_row))) else here in_row)) (in_scope is_row in_row h)
       ∙ ap (λ (b : Builder). Some (to_mode in_table_body (current_popped b))) (cleared-none is_row_context (here in_row) (or_left _ _ h))
-      ∙ ap (λ (x : Mode). Some (outside counts f outer others entries k x)) (sym e)
+      ∙ ap (λ (x : Mode). Some (outside reading f outer others entries k x)) (sym e)
 
   body-end : is_table_body f.element.own.name ≡ true → mode_of around ≡ in_table → ends_so a_table_body
   body-end h e =
       ap (λ (x : Bool). Some (if x then to_mode in_table (current_popped (cleared is_body_context (here in_table_body))) else here in_table_body)) (in_scope (bytes_eq f.element.own.name) in_table_body (same_name f.element.own.name))
       ∙ ap (λ (b : Builder). Some (to_mode in_table (current_popped b))) (cleared-none is_body_context (here in_table_body) (or_left _ _ h))
-      ∙ ap (λ (x : Mode). Some (outside counts f outer others entries k x)) (sym e)
+      ∙ ap (λ (x : Mode). Some (outside reading f outer others entries k x)) (sym e)
 
   column-end : is_column_group f.element.own.name ≡ true → mode_of around ≡ in_table → ends_so a_column_group
   column-end h e =
       ap (λ (x : Bool). Some (if x then to_mode in_table (current_popped (here in_column_group)) else here in_column_group)) h
-      ∙ ap (λ (x : Mode). Some (outside counts f outer others entries k x)) (sym e)
+      ∙ ap (λ (x : Mode). Some (outside reading f outer others entries k x)) (sym e)
 
   -- of tables and their parts
   pub table-closes : (g : Group) → group f.element.own.name ≡ g → is_plain g ≡ false → is_alone g ≡ false → stands g around f.element.own.name ≡ true → ends_so g

@@ -6,7 +6,7 @@ use Rattle.tl_html_spec.specs.Balanced.{is_item_bound, is_one_of, is_scope}
 use Rattle.tl_tree_spec.specs.HtmlForest.{HtmlTag}
 use Rattle.tl_tree_spec.specs.Groups.{Group, a_block, a_break, a_button, a_caption, a_cell, a_column, a_column_group, a_description, a_detail, a_format, a_heading, a_mark, a_nobr, a_paragraph, a_preformatted, a_row, a_ruby_base, a_ruby_text, a_rule, a_table, a_table_body, a_void, an_anchor, an_image, an_item, an_option, any_other, elsewhere, is_body_context, is_column_group_group, is_description, is_heading, is_implied, is_item, is_paragraph, is_part, is_row_context, is_row_group, is_table_body_group, is_table_context, is_table_group, misplaced}
 use Rattle.tl_tree_spec.specs.Builder.{Builder, Element, Frame, Mode, alone, closed_into, closed_through, elements, formatted, implied_closed, in_body, in_caption, in_cell, in_column_group, in_row, in_table, in_table_body, inserted, is_flow, mode_by, mode_of, names, new_element, no_name, popped, reconstructed, with_stack, within}
-use Rattle.tl_tree_spec.specs.HtmlTreeBuilder.{adoption, anchor_ended, body_start, button_closed, caption_part_start, cell_closed, cleared, description_closed, found, heading_closed, is_item_bound_in, is_rtc, item_closed, p_closed, popped_back, row_start, ruby_closed, start_tag, to_mode, with_marker}
+use Rattle.tl_tree_spec.specs.HtmlTreeBuilder.{adoption, anchor_ended, body_start, button_closed, caption_part_start, cell_closed, cleared, description_closed, found, heading_closed, is_item_bound_in, is_rtc, item_closed, p_closed, popped_back, ready_for_table, row_start, ruby_closed, start_tag, to_mode, with_marker}
 use Rattle.tl_tree_spec.specs.Stays.{directly_in, in_p, in_ruby, is_alone, is_preformatted, stands, stands_in_flow, surely_ends}
 use Rattle.tl_tree_spec.specs.Places.{entries_after}
 use Rattle.tl_tree_spec.proofs.Active.{Sound, none_listed, reconstructed_none}
@@ -15,6 +15,13 @@ use Rattle.tl_tree_spec.proofs.Active.{Sound, none_listed, reconstructed_none}
 
 p_stays : (b : Builder) → in_p (names b.stack) ≡ false → p_closed b ≡ b
 p_stays b h = ap (λ (x : Bool). if x then with_stack b (closed_through is_paragraph is_paragraph b.stack) else b) h
+
+ready_stays : (b : Builder) → in_p (names b.stack) ≡ false → ready_for_table b ≡ b
+ready_stays b h = either b.reading.is_quirks (p_closed b) (p_stays b h)
+  where
+    either : (v : Bool) (c : Builder) → c ≡ b → (if v then b else c) ≡ b
+    either true c e = refl
+    either false c e = e
 
 heading_stays : (b : Builder) → directly_in is_heading (names b.stack) ≡ false → heading_closed b ≡ b
 heading_stays b h = ap (λ (x : Bool). if x then with_stack b (popped b.stack.current b.stack.others) else b) h
@@ -31,7 +38,7 @@ fewer_stops b test [] h = refl
 fewer_stops b test (n ∷ ns) h =
     let here = or_parts (test n) (not (surely_ends n) && within test surely_ends ns) h in
     or_from (test n) (not (is_item_bound_in b n) && within test (is_item_bound_in b) ns) here.0
-    (fewer_step (is_item_bound n) (not (is_one_of (codes "search") n)) b.counts_search (within test surely_ends ns) (within test (is_item_bound_in b) ns) (fewer_stops b test ns) here.1)
+    (fewer_step (is_item_bound n) (not (is_one_of (codes "search") n)) b.reading.counts_search (within test surely_ends ns) (within test (is_item_bound_in b) ns) (fewer_stops b test ns) here.1)
 
 item_stays : (b : Builder) → within is_item (is_item_bound_in b) (names b.stack) ≡ false → item_closed b ≡ b
 item_stays b h = ap (λ (x : Bool). if x then with_stack b (closed_through is_item is_item b.stack) else b) h
@@ -121,7 +128,7 @@ body-opens b own a_ruby_text s h a =
       | inr y ↦ inr (not-true _ y)
     ]))
 body-opens b own any_other s h a = ap (λ (c : Builder). Some (inserted c own)) (reconstructed_none b s)
-body-opens b own a_table s h a = ap (λ (c : Builder). Some (to_mode in_table (inserted c own))) (p_stays b (not-true _ h))
+body-opens b own a_table s h a = ap (λ (c : Builder). Some (to_mode in_table (inserted c own))) (ready_stays b (not-true _ h))
 body-opens b own a_break s h a = absurd (true≢false a)
 body-opens b own a_void s h a = absurd (true≢false a)
 body-opens b own a_detail s h a = absurd (true≢false a)

@@ -6,7 +6,7 @@ use Rattle.std.proofs.lemmas.Bool.{and_parts, not-true}
 use Rattle.tl_spec.specs.Tree.Forest.{comment, none, tag, text}
 use Rattle.tl_html_spec.specs.HtmlTokenizer.{Character, EndTag, HtmlToken}
 use Rattle.tl_tree_spec.specs.HtmlForest.{HtmlForest, begins_with_text, html_tokens_of, is_normal, join_text, normal_form}
-use Rattle.tl_tree_spec.specs.Builder.{Builder, Entry, Mode, Nodes, Stack, and_character, and_element, and_text, elements, is_flow, no_nodes, reconstructed, with_character}
+use Rattle.tl_tree_spec.specs.Builder.{Builder, Entry, Mode, Nodes, Reading, Stack, and_character, and_element, and_text, elements, is_flow, no_nodes, reconstructed, with_character}
 use Rattle.tl_tree_spec.specs.HtmlTreeBuilder.{a_character, before, run, step}
 use Rattle.tl_tree_spec.specs.Stays.{begins_line, may_be_read}
 use Rattle.tl_tree_spec.proofs.Active.{Sound, reconstructed_none}
@@ -22,12 +22,12 @@ grown nodes (text bytes more) = grown (with_characters nodes bytes) more
 grown nodes (comment bytes more) = grown nodes more
 grown nodes (tag own children more) = grown (and_element nodes own (grown no_nodes children)) more
 
-abbrev pub builder : Bool → Stack → List Entry → ℕ → Mode → Builder
-builder counts s entries k m = record { stack = s; active = entries; next = k; skips = false; mode = m; counts_search = counts }
+abbrev pub builder : Reading → Stack → List Entry → ℕ → Mode → Builder
+builder reading s entries k m = record { stack = s; active = entries; next = k; skips = false; mode = m; reading = reading }
 
 -- before a line feed that is ignored
-abbrev pub loud : Bool → Stack → List Entry → ℕ → Mode → Builder
-loud counts s entries k m = record { stack = s; active = entries; next = k; skips = true; mode = m; counts_search = counts }
+abbrev pub loud : Reading → Stack → List Entry → ℕ → Mode → Builder
+loud reading s entries k m = record { stack = s; active = entries; next = k; skips = true; mode = m; reading = reading }
 
 abbrev pub with_nodes : Stack → Nodes → Stack
 with_nodes s nodes = record s { current = record s.current { children = nodes } }
@@ -39,24 +39,24 @@ character-run true c b h sound =
     ∙ ap (λ (d : Builder). Some (with_character d c)) (reconstructed_none b sound)
 character-run false c b h sound = ap (λ (y : Bool). if y then Some (with_character b c) else None) h
 
-module _ (counts : Bool) where
+module _ (reading : Reading) where
   -- and so do the characters of a text
   pub characters-run : (bytes : List ℕ) (s : Stack) (entries : List Entry) (k : ℕ) (m : Mode) (r : List HtmlToken) → Sound entries (elements s) →
       list_all (may_be_read (is_flow m)) bytes ≡ true →
-      run (Some (builder counts s entries k m)) (map Character bytes ++ r) ≡ run (Some (builder counts (with_nodes s (with_characters s.current.children bytes)) entries k m)) r
+      run (Some (builder reading s entries k m)) (map Character bytes ++ r) ≡ run (Some (builder reading (with_nodes s (with_characters s.current.children bytes)) entries k m)) r
   characters-run [] s entries k m r sound h = refl
   characters-run (c ∷ cs) s entries k m r sound h =
       let here = and_parts (may_be_read (is_flow m) c) (list_all (may_be_read (is_flow m)) cs) h in
-      ap (λ (o : Option Builder). run o (map Character cs ++ r)) (character-run (is_flow m) c (builder counts s entries k m) here.0 sound)
+      ap (λ (o : Option Builder). run o (map Character cs ++ r)) (character-run (is_flow m) c (builder reading s entries k m) here.0 sound)
       ∙ characters-run cs (with_nodes s (and_character s.current.children c)) entries k m r sound here.1
 
   -- what is no line feed is read as ever
   pub loud-run : (f : HtmlForest) (s : Stack) (entries : List Entry) (k : ℕ) (m : Mode) (n : List ℕ) (r : List HtmlToken) → begins_line f ≡ false →
-      run (Some (loud counts s entries k m)) (html_tokens_of f ++ (EndTag n ∷ r)) ≡ run (Some (builder counts s entries k m)) (html_tokens_of f ++ (EndTag n ∷ r))
+      run (Some (loud reading s entries k m)) (html_tokens_of f ++ (EndTag n ∷ r)) ≡ run (Some (builder reading s entries k m)) (html_tokens_of f ++ (EndTag n ∷ r))
   loud-run none s entries k m n r h = refl
   loud-run (text [] more) s entries k m n r h = loud-run more s entries k m n r h
   loud-run (text (c ∷ cs) more) s entries k m n r h =
-      ap (λ (x : Bool). run (if x then Some (builder counts s entries k m) else step (builder counts s entries k m) (Character c)) ((map Character cs ++ html_tokens_of more) ++ (EndTag n ∷ r))) h
+      ap (λ (x : Bool). run (if x then Some (builder reading s entries k m) else step (builder reading s entries k m) (Character c)) ((map Character cs ++ html_tokens_of more) ++ (EndTag n ∷ r))) h
   loud-run (comment bytes more) s entries k m n r h = refl
   loud-run (tag own children more) s entries k m n r h = refl
 

@@ -7,8 +7,8 @@ use Rattle.tl_spec.specs.Tree.Forest.{comment, none, tag, text}
 use Rattle.tl_html_spec.specs.HtmlTokenizer.{Character, EndTag, HtmlToken}
 use Rattle.tl_tree_spec.specs.HtmlForest.{HtmlForest, HtmlTag, html_tokens_of, is_normal, normal_form}
 use Rattle.tl_tree_spec.specs.Groups.{Group, a_caption, a_cell, a_column, a_column_group, a_format, a_mark, a_nobr, a_row, a_table, a_table_body, an_anchor, group}
-use Rattle.tl_tree_spec.specs.Builder.{Builder, Element, Entry, Frame, Mode, Nodes, Stack, and_element, elements, is_flow, mode_of, names, no_nodes}
-use Rattle.tl_tree_spec.specs.HtmlTreeBuilder.{adoption, body_end, end_tag, fragment, html_trees, html_trees_where, html_trees_without_search, run, start_tag, trees_of}
+use Rattle.tl_tree_spec.specs.Builder.{Builder, Element, Entry, Frame, Mode, Nodes, Reading, Stack, and_element, elements, is_flow, mode_of, names, no_nodes}
+use Rattle.tl_tree_spec.specs.HtmlTreeBuilder.{adoption, body_end, end_tag, fragment, html_trees, html_trees_where, html_trees_without_search, run, standard, start_tag, trees_of}
 use Rattle.tl_tree_spec.specs.Stays.{begins_line, is_alone, is_mark, is_mark_group, is_none, is_preformatted, may_be_read, may_stand, stands, stands_in_flow, stay}
 use Rattle.tl_tree_spec.specs.Places.{entries_after}
 use Rattle.tl_tree_spec.proofs.Active.{Ordered, Ordered-up, Sound, is_active, kept, marked, over, skipped, with_room-Sound}
@@ -17,13 +17,13 @@ use Rattle.tl_tree_spec.proofs.Ends.{active-closes, body-closes, entries_left, i
 use Rattle.tl_tree_spec.proofs.Texts.{IsPlain, builder, characters-run, grown, loud-run, normal, trees_grown, with_characters, with_nodes}
 
 -- from a stack, with entries and a number, these trees are added to the current node
-pub record Ran (counts : Bool) (s : Stack) (entries : List Entry) (k : ℕ) (f : HtmlForest) : Type 0 where
+pub record Ran (reading : Reading) (s : Stack) (entries : List Entry) (k : ℕ) (f : HtmlForest) : Type 0 where
   pub left : List Entry
   pub next : ℕ
   pub later : k ≤ next
   pub sound : Sound left (elements s)
-  pub runs : (ks : List HtmlToken) → run (Some (builder counts s entries k (mode_of (names s)))) (html_tokens_of f ++ ks)
-      ≡ run (Some (builder counts (with_nodes s (grown s.current.children f)) left next (mode_of (names s)))) ks
+  pub runs : (ks : List HtmlToken) → run (Some (builder reading s entries k (mode_of (names s)))) (html_tokens_of f ++ ks)
+      ≡ run (Some (builder reading (with_nodes s (grown s.current.children f)) left next (mode_of (names s)))) ks
 
 active-end : (g : Group) → is_active g ≡ true → (b : Builder) (n : List ℕ) → body_end b g n ≡ adoption b n
 active-end an_anchor v b n = refl
@@ -49,13 +49,13 @@ in_flow a_row ns n pl h = absurd (true≢false (sym pl))
 in_flow a_cell ns n pl h = absurd (true≢false (sym pl))
 in_flow g ns n pl h = and_parts (is_flow (mode_of ns)) (stands_in_flow g ns n) h
 
-module _ (counts : Bool) where
+module _ (reading : Reading) where
   -- where the end tag is read of the current node
   record Ended (e : Element) (nodes : Nodes) (s : Stack) (entries : List Entry) (k : ℕ) : Type 0 where
     left : List Entry
     sound : Sound left (elements s)
-    gives : end_tag (mode_of (e.own.name ∷ names s)) (inside counts (record { element = e; children = nodes }) s.current s.others entries k (mode_of (e.own.name ∷ names s))) (group e.own.name) e.own.name
-        ≡ Some (outside counts (record { element = e; children = nodes }) s.current s.others left k (mode_of (names s)))
+    gives : end_tag (mode_of (e.own.name ∷ names s)) (inside reading (record { element = e; children = nodes }) s.current s.others entries k (mode_of (e.own.name ∷ names s))) (group e.own.name) e.own.name
+        ≡ Some (outside reading (record { element = e; children = nodes }) s.current s.others left k (mode_of (names s)))
 
   -- of a group that is none of tables
   plain-ended : (e : Element) (nodes : Nodes) (s : Stack) (entries : List Entry) (k : ℕ) → Ordered e.number (elements s) → Sound entries (e ∷ elements s) →
@@ -64,25 +64,25 @@ module _ (counts : Bool) where
       let f : Frame = record { element = e; children = nodes } in
       let flow = in_flow (group e.own.name) (names s) e.own.name pl h in
       let m : is_mark e.own.name ≡ false = no_mark (group e.own.name) (names s) e.own.name flow.1 in
-      let from : (left : List Entry) → body_end (inside counts f s.current s.others entries k (mode_of (names s))) (group e.own.name) e.own.name ≡ Some (outside counts f s.current s.others left k (mode_of (names s))) →
-      end_tag (mode_of (e.own.name ∷ names s)) (inside counts f s.current s.others entries k (mode_of (e.own.name ∷ names s))) (group e.own.name) e.own.name ≡ Some (outside counts f s.current s.others left k (mode_of (names s))) =
+      let from : (left : List Entry) → body_end (inside reading f s.current s.others entries k (mode_of (names s))) (group e.own.name) e.own.name ≡ Some (outside reading f s.current s.others left k (mode_of (names s))) →
+      end_tag (mode_of (e.own.name ∷ names s)) (inside reading f s.current s.others entries k (mode_of (e.own.name ∷ names s))) (group e.own.name) e.own.name ≡ Some (outside reading f s.current s.others left k (mode_of (names s))) =
       λ left gives.
-      ap (λ (x : Mode). end_tag x (inside counts f s.current s.others entries k x) (group e.own.name) e.own.name) (mode-plain (group e.own.name) (mode_of (names s)) pl)
-      ∙ plain-end (mode_of (names s)) (inside counts f s.current s.others entries k (mode_of (names s))) e.own.name (group e.own.name) flow.0 pl
+      ap (λ (x : Mode). end_tag x (inside reading f s.current s.others entries k x) (group e.own.name) e.own.name) (mode-plain (group e.own.name) (mode_of (names s)) pl)
+      ∙ plain-end (mode_of (names s)) (inside reading f s.current s.others entries k (mode_of (names s))) e.own.name (group e.own.name) flow.0 pl
       ∙ gives in
       elim (cases_Bool (is_active (group e.own.name))) [
         | inl v ↦
-            let c = active-closes counts nodes s.current s.others k (mode_of (names s)) o m sound in
+            let c = active-closes reading nodes s.current s.others k (mode_of (names s)) o m sound in
             record {
               left = c.left;
               sound = c.sound;
-              gives = from c.left (active-end (group e.own.name) v (inside counts f s.current s.others entries k (mode_of (names s))) e.own.name ∙ c.gives);
+              gives = from c.left (active-end (group e.own.name) v (inside reading f s.current s.others entries k (mode_of (names s))) e.own.name ∙ c.gives);
             }
         | inr v ↦
             record {
               left = entries;
               sound = plain-Sound m v sound;
-              gives = from entries (body-closes counts f s.current s.others entries k (mode_of (names s)) (group e.own.name) refl (names s) flow.1 a v pl);
+              gives = from entries (body-closes reading f s.current s.others entries k (mode_of (names s)) (group e.own.name) refl (names s) flow.1 a v pl);
             }
       ]
 
@@ -97,17 +97,17 @@ table-Sound a_table_body entries e es h pl s = plain-Sound (ap is_mark_group h) 
 table-Sound a_row entries e es h pl s = plain-Sound (ap is_mark_group h) (ap is_active h) s
 table-Sound _ entries e es h pl s = absurd (true≢false pl)
 
-module _ (counts : Bool) where
+module _ (reading : Reading) where
   ended : (e : Element) (nodes : Nodes) (s : Stack) (entries : List Entry) (k : ℕ) → Ordered e.number (elements s) → Sound entries (e ∷ elements s) →
-      stands (group e.own.name) (names s) e.own.name ≡ true → is_alone (group e.own.name) ≡ false → Ended counts e nodes s entries k
+      stands (group e.own.name) (names s) e.own.name ≡ true → is_alone (group e.own.name) ≡ false → Ended reading e nodes s entries k
   ended e nodes s entries k o sound h a =
       elim (cases_Bool (is_plain (group e.own.name))) [
-        | inl pl ↦ plain-ended counts e nodes s entries k o sound h a pl
+        | inl pl ↦ plain-ended reading e nodes s entries k o sound h a pl
         | inr pl ↦
             record {
               left = entries_left (group e.own.name) entries;
               sound = table-Sound (group e.own.name) entries e (elements s) refl pl sound;
-              gives = table-closes counts (record { element = e; children = nodes }) s.current s.others entries k (group e.own.name) refl pl a h;
+              gives = table-closes reading (record { element = e; children = nodes }) s.current s.others entries k (group e.own.name) refl pl a h;
             }
       ]
 
@@ -124,23 +124,23 @@ entered _ e entries es h s = skipped (ap is_mark_group h) s
 abbrev within_tag : Stack → Element → Stack
 within_tag s e = record { current = record { element = e; children = no_nodes }; others = s.current ∷ s.others }
 
-module _ (counts : Bool) where
+module _ (reading : Reading) where
   -- a line feed right after `pre` is none of these
   quiet : (x : Bool) (f : HtmlForest) (s : Stack) (entries : List Entry) (k : ℕ) (m : Mode) (n : List ℕ) (r : List HtmlToken) → (x && begins_line f) ≡ false →
-      run (Some (record { stack = s; active = entries; next = k; skips = if x then true else false; mode = m; counts_search = counts })) (html_tokens_of f ++ (EndTag n ∷ r))
-      ≡ run (Some (builder counts s entries k m)) (html_tokens_of f ++ (EndTag n ∷ r))
-  quiet true f s entries k m n r h = loud-run counts f s entries k m n r h
+      run (Some (record { stack = s; active = entries; next = k; skips = if x then true else false; mode = m; reading = reading })) (html_tokens_of f ++ (EndTag n ∷ r))
+      ≡ run (Some (builder reading s entries k m)) (html_tokens_of f ++ (EndTag n ∷ r))
+  quiet true f s entries k m n r h = loud-run reading f s entries k m n r h
   quiet false f s entries k m n r h = refl
 
 abbrev with_tag : Stack → HtmlTag → Nodes → Stack
 with_tag s own inner = with_nodes s (and_element s.current.children own inner)
 
-module _ (counts : Bool) where
+module _ (reading : Reading) where
   void-ran : (own : HtmlTag) (children more : HtmlForest) (s : Stack) (entries : List Entry) (k : ℕ) → is_void own.name ≡ true → Sound entries (elements s) →
       stands (group own.name) (names s) own.name ≡ true → is_alone (group own.name) ≡ true → is_none children ≡ true →
-      Ran counts (with_tag s own no_nodes) entries (suc k) more → Ran counts s entries k (tag own children more)
+      Ran reading (with_tag s own no_nodes) entries (suc k) more → Ran reading s entries k (tag own children more)
   void-ran own none more s entries k v sound h a e rest =
-      let b : Builder = builder counts s entries k (mode_of (names s)) in
+      let b : Builder = builder reading s entries k (mode_of (names s)) in
       record {
         left = rest.left;
         next = rest.next;
@@ -161,14 +161,14 @@ first_entries s entries k own = entries_after (group own.name) (record { number 
 abbrev first_element : ℕ → HtmlTag → Element
 first_element k own = record { number = k; own = own }
 
-module _ (counts : Bool) where
+module _ (reading : Reading) where
   element-ran : (own : HtmlTag) (children more : HtmlForest) (s : Stack) (entries : List Entry) (k : ℕ) → is_void own.name ≡ false → Sound entries (elements s) →
       stands (group own.name) (names s) own.name ≡ true → is_alone (group own.name) ≡ false → (is_preformatted (group own.name) && begins_line children) ≡ false →
-      (inner : Ran counts (within_tag s (first_element k own)) (first_entries s entries k own) (suc k) children) →
-      (end : Ended counts (first_element k own) (grown no_nodes children) s inner.left inner.next) →
-      Ran counts (with_tag s own (grown no_nodes children)) end.left inner.next more → Ran counts s entries k (tag own children more)
+      (inner : Ran reading (within_tag s (first_element k own)) (first_entries s entries k own) (suc k) children) →
+      (end : Ended reading (first_element k own) (grown no_nodes children) s inner.left inner.next) →
+      Ran reading (with_tag s own (grown no_nodes children)) end.left inner.next more → Ran reading s entries k (tag own children more)
   element-ran own children more s entries k v sound h a l inner end rest =
-      let b : Builder = builder counts s entries k (mode_of (names s)) in
+      let b : Builder = builder reading s entries k (mode_of (names s)) in
       record {
         left = rest.left;
         next = rest.next;
@@ -178,7 +178,7 @@ module _ (counts : Bool) where
             ap (λ (x : Bool). run (start_tag (mode_of (names s)) b (group own.name) own) ((if x then html_tokens_of more else html_tokens_of children ++ (EndTag own.name ∷ html_tokens_of more)) ++ ks)) v
             ∙ ap (run (start_tag (mode_of (names s)) b (group own.name) own)) (append_assoc (html_tokens_of children) (EndTag own.name ∷ html_tokens_of more) ks)
             ∙ ap (λ (o : Option Builder). run o (html_tokens_of children ++ (EndTag own.name ∷ (html_tokens_of more ++ ks)))) (start-opens b own (group own.name) refl sound h a)
-            ∙ quiet counts (is_preformatted (group own.name)) children (within_tag s (first_element k own)) (first_entries s entries k own) (suc k) (mode_of (own.name ∷ names s)) own.name (html_tokens_of more ++ ks) l
+            ∙ quiet reading (is_preformatted (group own.name)) children (within_tag s (first_element k own)) (first_entries s entries k own) (suc k) (mode_of (own.name ∷ names s)) own.name (html_tokens_of more ++ ks) l
             ∙ inner.runs (EndTag own.name ∷ (html_tokens_of more ++ ks))
             ∙ ap (λ (o : Option Builder). run o (html_tokens_of more ++ ks)) end.gives
             ∙ rest.runs ks;
@@ -189,8 +189,8 @@ pub tag_parts : (v : Bool) (x y : Bool) → (if v then x else y) ≡ true → ((
 tag_parts true x y h = inl (refl, h)
 tag_parts false x y h = inr (refl, h)
 
-module _ (counts : Bool) where
-  pub ran : (f : HtmlForest) (s : Stack) (entries : List Entry) (k : ℕ) → Ordered k (elements s) → Sound entries (elements s) → stay (names s) f ≡ true → Ran counts s entries k f
+module _ (reading : Reading) where
+  pub ran : (f : HtmlForest) (s : Stack) (entries : List Entry) (k : ℕ) → Ordered k (elements s) → Sound entries (elements s) → stay (names s) f ≡ true → Ran reading s entries k f
   ran none s entries k o sound h = record { left = entries; next = k; later = omega arith; sound = sound; runs = λ ks. refl }
   ran (text bytes more) s entries k o sound h =
       let here = and_parts (list_all (may_be_read (is_flow (mode_of (names s)))) bytes) (stay (names s) more) h in
@@ -201,8 +201,8 @@ module _ (counts : Bool) where
         later = rest.later;
         sound = rest.sound;
         runs = λ ks.
-            ap (run (Some (builder counts s entries k (mode_of (names s))))) (append_assoc (map Character bytes) (html_tokens_of more) ks)
-            ∙ characters-run counts bytes s entries k (mode_of (names s)) (html_tokens_of more ++ ks) sound here.0
+            ap (run (Some (builder reading s entries k (mode_of (names s))))) (append_assoc (map Character bytes) (html_tokens_of more) ks)
+            ∙ characters-run reading bytes s entries k (mode_of (names s)) (html_tokens_of more ++ ks) sound here.0
             ∙ rest.runs ks;
       }
   ran (comment bytes more) s entries k o sound h = absurd (true≢false (sym h))
@@ -215,18 +215,18 @@ module _ (counts : Bool) where
       elim (tag_parts (is_void own.name) as_void (opens && below) here.1) [
         | inl y ↦
             let parts = and_parts (is_alone (group own.name)) (is_none children) y.1 in
-            void-ran counts own children more s entries k y.0 sound here.0 parts.0 parts.1
+            void-ran reading own children more s entries k y.0 sound here.0 parts.0 parts.1
             (ran more (with_tag s own no_nodes) entries (suc k) (Ordered-up k (suc k) (elements s) (omega arith) o) sound all.1)
         | inr y ↦
             let parts = and_parts opens below y.1 in
             let tests = and_parts (not (is_alone (group own.name))) (not (is_preformatted (group own.name) && begins_line children)) parts.0 in
             let e : Element = first_element k own in
-            let inner : Ran counts (within_tag s e) (first_entries s entries k own) (suc k) children =
+            let inner : Ran reading (within_tag s e) (first_entries s entries k own) (suc k) children =
             ran children (within_tag s e) (first_entries s entries k own) (suc k) (omega arith, o)
             (entered (group own.name) e entries (elements s) refl sound) parts.1 in
-            let end : Ended counts e (grown no_nodes children) s inner.left inner.next =
-            ended counts e (grown no_nodes children) s inner.left inner.next o inner.sound here.0 (not-true _ tests.0) in
-            element-ran counts own children more s entries k y.0 sound here.0 (not-true _ tests.0) (not-true _ tests.1) inner end
+            let end : Ended reading e (grown no_nodes children) s inner.left inner.next =
+            ended reading e (grown no_nodes children) s inner.left inner.next o inner.sound here.0 (not-true _ tests.0) in
+            element-ran reading own children more s entries k y.0 sound here.0 (not-true _ tests.0) (not-true _ tests.1) inner end
             (ran more (with_tag s own (grown no_nodes children)) end.left inner.next
             (Ordered-up k inner.next (elements s) (omega (arith, inner.later)) o) end.sound all.1)
       ]
@@ -254,19 +254,19 @@ stay-IsPlain (tag own children more) ns h =
     empty (tag t f g) e = absurd (true≢false (sym e))
 
 -- the theorem: the tree builder gives trees that stay back
-stays_where : (counts : Bool) (f : HtmlForest) → stay (codes "html" ∷ []) f ≡ true → html_trees_where counts (html_tokens_of f) ≡ Some (normal_form f)
-stays_where counts f h =
-    let r : Ran counts (fragment counts).stack [] 1 f = ran counts f (fragment counts).stack [] 1 (omega arith, tt) over h in
-    ap (λ (ks : List HtmlToken). html_trees_where counts ks) (sym (append-nil (html_tokens_of f)))
+pub stays_where : (reading : Reading) (f : HtmlForest) → stay (codes "html" ∷ []) f ≡ true → html_trees_where reading (html_tokens_of f) ≡ Some (normal_form f)
+stays_where reading f h =
+    let r : Ran reading (fragment reading).stack [] 1 f = ran reading f (fragment reading).stack [] 1 (omega arith, tt) over h in
+    ap (λ (ks : List HtmlToken). html_trees_where reading ks) (sym (append-nil (html_tokens_of f)))
     ∙ ap (option_map trees_of) (r.runs [])
     ∙ ap Some (trees_grown f (stay-IsPlain f (codes "html" ∷ []) h))
 
 pub stays : (f : HtmlForest) → stay (codes "html" ∷ []) f ≡ true → html_trees (html_tokens_of f) ≡ Some (normal_form f)
-stays f h = stays_where true f h
+stays f h = stays_where standard f h
 
 pub stays_exactly : (f : HtmlForest) → stay (codes "html" ∷ []) f ≡ true → is_normal f ≡ true → html_trees (html_tokens_of f) ≡ Some f
 stays_exactly f h n = stays f h ∙ ap Some (normal f n)
 
 -- whether `search` is a special element makes no difference
 pub stays_without_search : (f : HtmlForest) → stay (codes "html" ∷ []) f ≡ true → html_trees_without_search (html_tokens_of f) ≡ html_trees (html_tokens_of f)
-stays_without_search f h = stays_where false f h ∙ sym (stays f h)
+stays_without_search f h = stays_where (record standard { counts_search = false }) f h ∙ sym (stays f h)

@@ -45,6 +45,14 @@ pub data Entry : Type 0 where
   marker : Entry
   formatting : Element → Entry
 
+-- what is set before tokens are read, and stays so
+pub record Reading : Type 0 where
+  -- whether `search` is a special element: it is one by the standard (13.2.4.2), and not in all
+  -- browsers
+  pub counts_search : Bool
+  -- whether the document is in quirks mode
+  pub is_quirks : Bool
+
 pub record Builder : Type 0 where
   pub stack : Stack
   pub active : List Entry
@@ -53,9 +61,7 @@ pub record Builder : Type 0 where
   -- whether a line feed is ignored that comes next
   pub skips : Bool
   pub mode : Mode
-  -- whether `search` is a special element: it is one by the standard (13.2.4.2), and not in all
-  -- browsers. It stays as it is
-  pub counts_search : Bool
+  pub reading : Reading
 
 -- one of these passes the test, and none between stops the search
 abbrev pub within : {A : Type 0} → (A → Bool) → (A → Bool) → List A → Bool

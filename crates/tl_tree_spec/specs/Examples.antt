@@ -5,7 +5,7 @@ use Rattle.tl_spec.specs.Tree.Forest.{none, tag, text}
 use Rattle.tl_html_spec.specs.Escapes.{escaped_value, text_escape}
 use Rattle.tl_html_spec.specs.HtmlTokenizer.{HtmlAttribute, HtmlToken, Character, StartTag, EndTag, CommentToken, DoctypeToken, tokens_in_page}
 use Rattle.tl_tree_spec.specs.HtmlForest.{HtmlForest, html_tokens_of}
-use Rattle.tl_tree_spec.specs.HtmlTreeBuilder.{html_trees, html_trees_without_search}
+use Rattle.tl_tree_spec.specs.HtmlTreeBuilder.{html_trees, html_trees_in_quirks, html_trees_without_search}
 use Rattle.tl_tree_spec.specs.Stays.{stay}
 
 -- the trees of a text as the children of a `div`
@@ -37,6 +37,11 @@ inner_html page = option_map written_trees (trees page)
 abbrev pub inner_html_without_search : String → Option (List ℕ)
 inner_html_without_search page =
     option_map written_trees (html_trees_without_search (tokens_in_page (codes page)))
+
+-- the same where the document is in quirks mode
+abbrev pub inner_html_in_quirks : String → Option (List ℕ)
+inner_html_in_quirks page =
+    option_map written_trees (html_trees_in_quirks (tokens_in_page (codes page)))
 
 -- whether trees stay as the children of a `div`
 abbrev pub stay_there : HtmlForest → Bool

@@ -1,5 +1,5 @@
 -- The tree builder of the HTML standard (13.2.6): its insertion modes "in body" (13.2.6.4.7) and
--- those of tables (13.2.6.4.9 to .15), in a document that isn't in quirks mode, with scripting off.
+-- those of tables (13.2.6.4.9 to .15), with scripting off.
 --
 -- What is not written down has no outcome (`None`), so a law that names an outcome says as well
 -- that the builder meets none of it:
@@ -11,8 +11,9 @@
 -- - in the adoption agency algorithm what follows from its step on a furthest block; and that an
 --   `a` leaves the open elements from between others.
 --
--- One thing is written down both ways: whether `search` is a special element (13.2.4.2), as the
--- standard says, or not, as in Chromium 156 (`html_trees_without_search`).
+-- Two things are written down both ways (`Reading`): whether `search` is a special element
+-- (13.2.4.2), as the standard says, or not, as in Chromium 156; and whether the document is in
+-- quirks mode, where a `table` closes no `p`.
 --
 -- Left out, since it shows in no tree that is made here: parse errors, the frameset-ok flag, the
 -- self-closing flag, and namespaces, as no element here is of another one than HTML's.
@@ -24,17 +25,19 @@ use Rattle.tl_html_spec.specs.HtmlTokenizer.{Character, CommentToken, DoctypeTok
 use Rattle.tl_html_spec.specs.Balanced.{is_button_scope, is_item_bound, is_list_scope, is_one_of, is_scope, is_special}
 use Rattle.tl_tree_spec.specs.HtmlForest.{HtmlForest, HtmlTag}
 use Rattle.tl_tree_spec.specs.Groups.{Group, a_block, a_break, a_button, a_caption, a_cell, a_column, a_column_group, a_description, a_detail, a_format, a_heading, a_mark, a_nobr, a_paragraph, a_preformatted, a_row, a_ruby_base, a_ruby_text, a_rule, a_table, a_table_body, a_void, an_anchor, an_image, an_item, an_option, any_other, elsewhere, group, is_body_context, is_caption, is_cell, is_column_group, is_description, is_heading, is_item, is_paragraph, is_part, is_row, is_row_context, is_table, is_table_body, is_table_context, is_table_scope}
-use Rattle.tl_tree_spec.specs.Builder.{Builder, Element, Frame, Mode, Nodes, Stack, alone, and_element, and_text, closed_into, closed_through, elements, formatted, has_name, has_number, implied_closed, in_body, in_caption, in_cell, in_column_group, in_row, in_table, in_table_body, inserted, is_flow, is_listed, is_open, listed, marker, mode_of, names, no_name, no_nodes, popped, popped_through, reconstructed, unlisted, with_character, with_stack, within, without_last_marker}
+use Rattle.tl_tree_spec.specs.Builder.{Builder, Element, Frame, Mode, Nodes, Reading, Stack, alone, and_element, and_text, closed_into, closed_through, elements, formatted, has_name, has_number, implied_closed, in_body, in_caption, in_cell, in_column_group, in_row, in_table, in_table_body, inserted, is_flow, is_listed, is_open, listed, marker, mode_of, names, no_name, no_nodes, popped, popped_through, reconstructed, unlisted, with_character, with_stack, within, without_last_marker}
 
 -- Special elements (13.2.4.2)
 
 -- whether a name is that of one
 abbrev pub is_special_in : Builder → List ℕ → Bool
-is_special_in b n = is_special n && (b.counts_search || not (is_one_of (codes "search") n))
+is_special_in b n =
+    is_special n && (b.reading.counts_search || not (is_one_of (codes "search") n))
 
 -- a special element but `address`, `div` and `p`
 abbrev pub is_item_bound_in : Builder → List ℕ → Bool
-is_item_bound_in b n = is_item_bound n && (b.counts_search || not (is_one_of (codes "search") n))
+is_item_bound_in b n =
+    is_item_bound n && (b.reading.counts_search || not (is_one_of (codes "search") n))
 
 -- "in body" (13.2.6.4.7)
 
@@ -47,6 +50,10 @@ closed_in bounds but test b =
 -- a `p` element is closed, if one is in button scope
 abbrev pub p_closed : Builder → Builder
 p_closed b = closed_in is_button_scope is_paragraph is_paragraph b
+
+-- before a table, but in quirks mode
+abbrev pub ready_for_table : Builder → Builder
+ready_for_table b = if b.reading.is_quirks then b else p_closed b
 
 -- a heading that is the current node is popped
 abbrev pub heading_closed : Builder → Builder
@@ -158,7 +165,7 @@ body_start b a_detail own = Some (alone b own)
 body_start b a_rule own = Some (alone (p_closed b) own)
 body_start b a_ruby_base own = Some (inserted (ruby_closed no_name b) own)
 body_start b a_ruby_text own = Some (inserted (ruby_closed is_rtc b) own)
-body_start b a_table own = Some (to_mode in_table (inserted (p_closed b) own))
+body_start b a_table own = Some (to_mode in_table (inserted (ready_for_table b) own))
 body_start b an_option own = None
 body_start b elsewhere own = None
 body_start b any_other own = Some (inserted (reconstructed b) own)
@@ -447,8 +454,8 @@ whole f [] = f.children
 whole f (outer ∷ others) = whole (closed_into outer f) others
 
 -- the fragment algorithm (13.4), whose context is an element that the mode "in body" is for
-abbrev pub fragment : Bool → Builder
-fragment counts_search = record {
+abbrev pub fragment : Reading → Builder
+fragment reading = record {
   stack = record {
     current = record {
       element = record { number = 0; own = record { name = codes "html"; attributes = [] } };
@@ -460,21 +467,29 @@ fragment counts_search = record {
   next = 1;
   skips = false;
   mode = in_body;
-  counts_search = counts_search;
+  reading = reading;
 }
 
 abbrev pub trees_of : Builder → HtmlForest
 trees_of b = before (whole b.stack.current b.stack.others) none
 
--- the trees that tokens make, where `search` is a special element or not
-abbrev pub html_trees_where : Bool → List HtmlToken → Option HtmlForest
-html_trees_where counts_search tokens =
-    option_map trees_of (run (Some (fragment counts_search)) tokens)
+-- as the standard says, in a document that isn't in quirks mode
+abbrev pub standard : Reading
+standard = record { counts_search = true; is_quirks = false }
 
--- the trees that tokens make by the standard
+-- the trees that tokens make
+abbrev pub html_trees_where : Reading → List HtmlToken → Option HtmlForest
+html_trees_where reading tokens = option_map trees_of (run (Some (fragment reading)) tokens)
+
+-- by the standard, in a document that isn't in quirks mode
 abbrev pub html_trees : List HtmlToken → Option HtmlForest
-html_trees tokens = html_trees_where true tokens
+html_trees tokens = html_trees_where standard tokens
 
 -- the same where `search` is no special element
 abbrev pub html_trees_without_search : List HtmlToken → Option HtmlForest
-html_trees_without_search tokens = html_trees_where false tokens
+html_trees_without_search tokens =
+    html_trees_where (record standard { counts_search = false }) tokens
+
+-- by the standard, in a document in quirks mode
+abbrev pub html_trees_in_quirks : List HtmlToken → Option HtmlForest
+html_trees_in_quirks tokens = html_trees_where (record standard { is_quirks = true }) tokens

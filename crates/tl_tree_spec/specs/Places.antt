@@ -1,10 +1,10 @@
 -- Places in a page that is being read.
-use Rattle.std.specs.Prelude.{◌≡◌, Bool, List, [], ◌∷◌, Some}
+use Rattle.std.specs.Prelude.{◌≡◌, List, [], ◌∷◌, Some}
 use Rattle.tl_spec.specs.Tree.Forest.{none}
 use Rattle.tl_html_spec.specs.HtmlTokenizer.{HtmlToken}
 use Rattle.tl_tree_spec.specs.HtmlForest.{HtmlForest, HtmlTag}
 use Rattle.tl_tree_spec.specs.Groups.{Group, a_caption, a_cell, a_format, a_mark, a_nobr, an_anchor, group}
-use Rattle.tl_tree_spec.specs.Builder.{Builder, Element, Entry, formatting, inserted, marker, mode_by, new_element, with_room}
+use Rattle.tl_tree_spec.specs.Builder.{Builder, Element, Entry, Reading, formatting, inserted, marker, mode_by, new_element, with_room}
 use Rattle.tl_tree_spec.specs.HtmlTreeBuilder.{before, fragment, run}
 
 -- the entries after an element of a group was opened
@@ -17,12 +17,11 @@ entries_after a_format e entries = formatting e ∷ with_room e.own entries
 entries_after a_nobr e entries = formatting e ∷ with_room e.own entries
 entries_after _ e entries = entries
 
--- where elements of these tags are open, the innermost first, with nothing in them yet; and where
--- `search` is a special element or not
-abbrev pub placed : Bool → List HtmlTag → Builder
-placed counts_search [] = fragment counts_search
-placed counts_search (own ∷ tags) =
-    let around = placed counts_search tags in
+-- where elements of these tags are open, the innermost first, with nothing in them yet
+abbrev pub placed : Reading → List HtmlTag → Builder
+placed reading [] = fragment reading
+placed reading (own ∷ tags) =
+    let around = placed reading tags in
     record (inserted around own) {
       active = entries_after (group own.name) (new_element around own) around.active;
       mode = mode_by (group own.name) around.mode;

@@ -1,7 +1,7 @@
 //! Worked rows: pages with tables, and what the tree builder makes of them (13.2.6.4.9 to .15).
 
 ghost use Rattle.std.specs.Prelude.{◌≡◌, Some, None, codes};
-ghost use Rattle.tl_tree_spec.specs.Examples.{inner_html};
+ghost use Rattle.tl_tree_spec.specs.Examples.{inner_html, inner_html_in_quirks};
 
 /// Parts of tables: those that are missing are put in.
 pub fn parts()
@@ -40,6 +40,17 @@ pub fn places()
         ≡ Some (codes "<p><b></b></p><table><tbody><tr><td>x</td></tr></tbody></table><b>y</b>") }
     ensures cell_in_caption { inner_html "<table><caption>x<td>y"
         ≡ Some (codes "<table><caption>x</caption><tbody><tr><td>y</td></tr></tbody></table>") }
+{}
+
+/// In quirks mode a table stands in a `p`, also where it ends another one; all else closes the `p`.
+pub fn quirks()
+    ensures table_in_p { inner_html_in_quirks "<p>x<table></table>y"
+        ≡ Some (codes "<p>x<table></table>y</p>") }
+    ensures table_in_table_in_p { inner_html_in_quirks "<p>x<table><table></table>y"
+        ≡ Some (codes "<p>x<table></table><table></table>y</p>") }
+    ensures rule_in_p { inner_html_in_quirks "<p>x<hr>y" ≡ Some (codes "<p>x</p><hr>y") }
+    ensures no_p { inner_html_in_quirks "<table><td>x</table>"
+        ≡ Some (codes "<table><tbody><tr><td>x</td></tr></tbody></table>") }
 {}
 
 /// What is foster parented has no outcome, as in the standard's example (13.2.10).
