@@ -11,7 +11,7 @@ from docs/SAFE.md alone, prints the same.
 
 With --trees it looks instead at N pages for each of five policies whose tags are nested wrongly (misnested.py): whether the plain
 sanitizer prints the same, and whether the trees that Chromium builds of the print are those that it was printed of: put
-into twelve elements, from `div` to `template`, and as a document, with a doctype and without, each of them once more as the browser
+into thirteen elements, from `div` to `template`, a `div` in quirks mode, and as a document, with a doctype and without, each once more as the browser
 writes it. The same pages go through the Rust crate ammonia where its program is named, which `cargo build --release` makes in
 compare/ammonia.
 
