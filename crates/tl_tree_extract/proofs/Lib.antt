@@ -16,3 +16,7 @@ pub mod Marked
 pub mod Sinks
 pub mod Arrays
 pub mod Standing
+pub mod Smooth
+pub mod Spaced
+pub mod Spaces
+pub mod Keyed

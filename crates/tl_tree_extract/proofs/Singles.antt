@@ -1,13 +1,13 @@
 -- Texts whose white space is collapsed: what stands in a line with one space between two words is
 -- written as it is.
 use Rattle.memchr.specs.Find.{IsFirstByte, is_byte3}
-use Rattle.std.proofs.Common.{Bool, List, None, Option, Some, [], ap, ap₂, append_assoc, arith, drop, false, get_or, inl, inr, length, map, nat_eq, not, refl, subst, suc, sym, take, true, zero, ℕ, ◌&&◌, ◌+◌, ◌-◌, ◌++◌, ◌<◌, ◌==◌, ◌||◌, ◌∙◌, ◌≡◌, ◌≤◌, ◌∷◌, ◌⊎◌}
+use Rattle.std.proofs.Common.{Bool, List, None, Option, Some, [], ap, ap₂, append_assoc, arith, drop, false, get_or, inl, inr, length, not, refl, suc, sym, take, true, zero, ℕ, ◌&&◌, ◌-◌, ◌++◌, ◌<◌, ◌==◌, ◌||◌, ◌∙◌, ◌≡◌, ◌∷◌}
 use Rattle.std.proofs.lemmas.Bool.{and_parts, cases_Bool, cond-true, eqb-true, false_from_ne_true}
 use Rattle.std.proofs.lemmas.List.{map-append, take-append-drop}
 use Rattle.std.proofs.lemmas.List.Sums.{position_or_len_is}
 use Rattle.std.specs.List.{list_all, prefix_len}
 use Rattle.std.specs.Option.{unwrap_or}
-use Rattle.tl_tree_extract.proofs.Flows.{after-append, after-byte, byte-written, front-plain, mark-stops, not-true, written-append}
+use Rattle.tl_tree_extract.proofs.Flows.{after-append, after-byte, byte-written, front-plain, mark-stops, written-append}
 use Rattle.tl_tree_extract.specs.Flowing.{Item, a_space, after_item, after_items, ahead, in_line, is_break, is_white, item_of, text_items, with_space, written}
 use Rattle.tl_tree_extract.specs.Inner.Runs.{after_run, apart, has_idle_space, is_plain, past_white, run_written}
 use Rattle.tl_tree_extract.specs.declared.text.flow.Flow.{Flow}
@@ -118,7 +118,7 @@ twice-apart f (b ∷ w) = one f.gap
 white-item : (b : ℕ) → is_white b ≡ true → item_of false b ≡ a_space
 white-item b e = cond-true (is_white b) _ _ e
 
-white-written : (f : Flow) (w : List ℕ) → list_all is_white w ≡ true → (written f (text_items false w) ≡ []) × (after_items f (text_items false w) ≡ past_white f w)
+pub white-written : (f : Flow) (w : List ℕ) → list_all is_white w ≡ true → (written f (text_items false w) ≡ []) × (after_items f (text_items false w) ≡ past_white f w)
 white-written f [] h = (refl, refl)
 white-written f (b ∷ w) h =
     let q = and_parts (is_white b) (list_all is_white w) h in

@@ -1,16 +1,16 @@
 -- Bytes that are written as they are.
-use Rattle.std.proofs.Common.{Bool, List, [], ap, ap₂, arith, false, get_or, inl, inr, length, not, refl, suc, sym, true, zero, ℕ, ◌+◌, ◌++◌, ◌<◌, ◌||◌, ◌∙◌, ◌≡◌, ◌≤◌, ◌∷◌}
-use Rattle.std.proofs.lemmas.Bool.{cases_eq, cases_lt, cond-false, cond-true, not-false, not-true, or_parts}
+use Rattle.std.proofs.Common.{Bool, List, [], ap, ap₂, arith, false, get_or, inl, inr, length, refl, suc, ℕ, ◌+◌, ◌++◌, ◌<◌, ◌||◌, ◌∙◌, ◌≡◌, ◌≤◌, ◌∷◌}
+use Rattle.std.proofs.lemmas.Bool.{cases_eq, cases_lt, cond-false, cond-true, not-false, or_parts}
 use Rattle.std.specs.Prelude.{flat_map}
 use Rattle.tl_tree_extract.specs.Inner.Marked.{AreUnmarked, is_marked}
 use Rattle.tl_tree_extract.specs.Notation.{is_plain, name_byte, string_byte}
 use Rattle.tl_tree_extract.specs.declared.written_bytes.Written.{Written}
 use Rattle.tl_tree_extract.specs.declared.written_bytes.Written.TheVariants.{CssName, CssString}
 
-pub one_more : (w : Written) (text : List ℕ) (start place : ℕ) (found : Bool) → (found ≡ false → AreUnmarked w text start place) → (found || is_marked w (get_or text place 0)) ≡ false → AreUnmarked w text start (place + 1)
-one_more w text start place found before none k low high =
-    let parts = or_parts found (is_marked w (get_or text place 0)) none in
-    elim (cases_eq k place) [
+pub one_more : (w : Written) (text : List ℕ) (start count : ℕ) (found : Bool) → (found ≡ false → AreUnmarked w text start (start + count)) → (found || is_marked w (get_or text (start + count) 0)) ≡ false → AreUnmarked w text start (start + (count + 1))
+one_more w text start count found before none k low high =
+    let parts = or_parts found (is_marked w (get_or text (start + count) 0)) none in
+    elim (cases_eq k (start + count)) [
       | inl same ↦ ap (λ n. is_marked w (get_or text n 0)) same ∙ parts.1
       | inr other ↦ before parts.0 k low (omega arith)
     ]

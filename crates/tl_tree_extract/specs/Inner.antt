@@ -6,3 +6,4 @@ pub mod Slots
 pub mod Kept
 pub mod Sinks
 pub mod Marked
+pub mod Keys

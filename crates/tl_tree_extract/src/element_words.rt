@@ -1,9 +1,10 @@
 //! Elements as selectors of CSS that hold of them.
 ghost use Rattle.std.specs.Option.{option_copied, option_and_then, option_map_or, unwrap_or};
-ghost use Rattle.std.specs.Prelude.{OnOk, [], codes, flat_map, map, ◌++◌, ◌∷◌, ◌≡◌};
+ghost use Rattle.std.specs.Prelude.{List, None, OnOk, [], codes, false, flat_map, map, slice_index_or, true, ◌++◌, ◌<◌, ◌∷◌, ◌≡◌, ℕ};
 ghost use Rattle.tl_tree.specs.Asked.{attributes_at, name_of, node_at, value_of};
 ghost use Rattle.tl_tree.specs.Below.{words_of};
 ghost use Rattle.tl_tree.specs.TreeView.{rows_in};
+ghost use Rattle.tl_tree_extract.specs.Inner.Keys.{place_of};
 ghost use Rattle.tl_tree_extract.specs.NodeOutline.{attribute_words, class_word, class_words, id_words, key_words, keys_words, shown_key, shown_keys, value_or};
 ghost use Rattle.tl_tree_extract.specs.Notation.{css_name};
 
@@ -60,6 +61,7 @@ fn put_value(key: &str, value: &[u8], out: &mut Vec<u8>) -> Result<(), AllocErro
 }
 
 // Writes what an element has at a key, if it has that.
+#[inline(never)]
 fn put_key(tree: &Tree<'_>, number: usize, key: &str, out: &mut Vec<u8>) -> Result<(), AllocError>
     ensures { OnOk result (out.new.items
         ≡ out.old.items ++ shown_key (attributes_at (rows_in tree.now) number) key.now) }
@@ -70,31 +72,71 @@ fn put_key(tree: &Tree<'_>, number: usize, key: &str, out: &mut Vec<u8>) -> Resu
     }
 }
 
-// Writes what an element has at these keys.
+// Which first bytes the keys of an element's attributes have: a mark at the place of each, as far
+// as its lower bits tell it from others.
+fn first_bytes(tree: &Tree<'_>, number: usize) -> [bool; 32]
+    ensures { (key : List ℕ) → slice_index_or result (place_of key) true ≡ false
+        → value_of key (attributes_at (rows_in tree.now) number) ≡ None }
+{
+    let mut found = [false; 32];
+    for attribute in tree.attributes(number) {
+        found[place_of(attribute.key)] = true;
+    }
+    found
+}
+
+// The lower bits of the first byte of a key.
+#[inline(always)]
+fn place_of(key: &[u8]) -> usize
+    ensures value { result ≡ place_of key.now }
+    ensures within { result < 32 }
+{
+    match key {
+        [first, ..] => *first as usize % 32,
+        [] => 0,
+    }
+}
+
+// Writes what an element has at these keys, where it may have such with their first bytes.
+#[inline(always)]
 fn put_keys(
     tree: &Tree<'_>,
     number: usize,
+    found: &[bool; 32],
     keys: &[&str],
     out: &mut Vec<u8>,
 ) -> Result<(), AllocError>
+    requires { (key : List ℕ) → slice_index_or found.now (place_of key) true ≡ false
+        → value_of key (attributes_at (rows_in tree.now) number) ≡ None }
     ensures { OnOk result (out.new.items ≡ out.old.items ++ keys_words
         (map (λ own. own.now) keys.now) (attributes_at (rows_in tree.now) number)) }
 {
     for key in keys {
-        put_key(tree, number, key, out)?;
+        if found[place_of(key.as_bytes())] {
+            put_key(tree, number, key, out)?;
+        }
     }
     Ok(())
 }
 
-// Writes the attributes of an element that has some.
+// Writes what an element has at the keys that are shown.
+#[inline(always)]
 #[tactic(auto, unfolding(crate::specs::NodeOutline::shown_keys))]
+fn put_shown(tree: &Tree<'_>, number: usize, out: &mut Vec<u8>) -> Result<(), AllocError>
+    ensures { OnOk result (out.new.items
+        ≡ out.old.items ++ keys_words shown_keys (attributes_at (rows_in tree.now) number)) }
+{
+    put_keys(tree, number, &first_bytes(tree, number), &SHOWN_KEYS, out)
+}
+
+// Writes the attributes of an element that has some.
 fn put_some(tree: &Tree<'_>, number: usize, out: &mut Vec<u8>) -> Result<(), AllocError>
     ensures { OnOk result (out.new.items
         ≡ out.old.items ++ attribute_words (attributes_at (rows_in tree.now) number)) }
 {
     put_id(tree.id(number).unwrap_or(b""), out)?;
     put_classes(tree, number, out)?;
-    put_keys(tree, number, &SHOWN_KEYS, out)
+    put_shown(tree, number, out)
 }
 
 // Writes the attributes of an element.

@@ -16,6 +16,7 @@ use std::alloc::{AllocError, Global};
 use tl_tree::{Attribute, AttributeSpace, Namespace, Tree};
 
 /// Writes a member that is a string.
+#[inline(always)]
 pub(crate) fn put_text<S: Sink>(
     alloc: Global,
     name: KnownKey,
@@ -31,6 +32,7 @@ pub(crate) fn put_text<S: Sink>(
 }
 
 /// Writes a member that is a number.
+#[inline(always)]
 pub(crate) fn put_number<S: Sink>(
     name: KnownKey,
     value: usize,
@@ -158,6 +160,7 @@ pub(crate) fn put_name<S: Sink>(
 
 /// Writes a member that is a text of UTF-8.
 #[tactic(auto, using(crate::proofs::Lossy::lossy_same, crate::proofs::Sinks::after_both))]
+#[inline(always)]
 pub(crate) fn put_str<S: Sink>(
     alloc: Global,
     name: KnownKey,

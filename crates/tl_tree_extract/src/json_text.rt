@@ -123,7 +123,6 @@ impl Sink for Text {
         Ok(())
     }
 
-    #[inline(always)]
     fn string(&mut self, alloc: Global, bytes: &[u8]) -> Result<(), AllocError> {
         self.put_comma(true)?;
         self.put_quoted(alloc, false, bytes)?;

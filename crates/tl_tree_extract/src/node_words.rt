@@ -4,7 +4,7 @@ ghost use Rattle.std.specs.Prelude.{OnOk, ◌++◌, ◌==◌, ◌≡◌};
 ghost use Rattle.tl_tree_extract.specs.NodeOutline.{behind_space, comment_words, doctype_words, first_words, text_words};
 
 use crate::run::{Run, behind};
-use crate::text::{line_len, write_words};
+use crate::text::{is_smooth, line_len, write_words};
 use std::alloc::AllocError;
 
 // What stands before the first line feed.
@@ -19,7 +19,11 @@ fn first_line(bytes: &[u8]) -> &[u8]
 fn put_first_words(bytes: &[u8], out: &mut Vec<u8>) -> Result<(), AllocError>
     ensures { OnOk result (out.new.items ≡ out.old.items ++ first_words bytes.now) }
 {
-    write_words(first_line(behind(Run::White, bytes)), out)
+    let words = behind(Run::White, bytes);
+    if is_smooth(words) {
+        return out.extend_from_slice(words);
+    }
+    write_words(first_line(words), out)
 }
 
 /// Writes a text in quotes.

@@ -72,14 +72,15 @@ pub fn headings(alloc: Global, tree: &Tree<'_>) -> Result<Vec<Heading>, AllocErr
     Ok(headings)
 }
 
+// As many spaces as the most levels have.
+static SPACES: [u8; 510] = [b' '; 510];
+
 /// Writes two spaces for each of so many levels.
+#[tactic(auto, using(crate::proofs::Spaces::indented))]
 pub(crate) fn put_indentation(levels: u8, out: &mut Vec<u8>) -> Result<(), AllocError>
     ensures { OnOk result (out.new.items ≡ out.old.items ++ indentation levels) }
 {
-    for _ in 0..levels {
-        out.extend_from_slice(b"  ")?;
-    }
-    Ok(())
+    out.extend_from_slice(&SPACES[..2 * levels as usize])
 }
 
 // Writes the line of a heading.

@@ -10,7 +10,7 @@ pub(crate) mod rows;
 
 pub use crate::text::display::{Display, box_of};
 use crate::text::flow::Flow;
-pub(crate) use crate::text::flow::line_len;
+pub(crate) use crate::text::flow::{is_smooth, line_len};
 use crate::text::rows::{is_kept, write_rows};
 use std::alloc::AllocError;
 use tl_tree::Tree;

@@ -36,8 +36,8 @@ fn has_mark<const N: usize>(written: Written, text: &[u8], start: usize) -> bool
     ensures { result ≡ false → AreUnmarked written text.now start (start + N) }
 {
     let mut found = false;
-    for place in start..start + N {
-        found |= is_marked(written, text[place]);
+    for place in 0..N {
+        found |= is_marked(written, text[start + place]);
     }
     found
 }
@@ -60,6 +60,19 @@ fn is_unmarked_by<const N: usize>(written: Written, text: &[u8]) -> bool
     !has_mark::<N>(written, text, text.len() - N)
 }
 
+// The same of at most twice as many bytes.
+#[inline(always)]
+#[tactic(auto, using(crate::proofs::Standing::joined))]
+fn are_both_unmarked<const N: usize>(written: Written, text: &[u8]) -> bool
+    requires long { N ≤ length text.now }
+    requires short { length text.now ≤ N + N }
+    ensures { result ≡ true → AreUnmarked written text.now 0 (length text.now) }
+{
+    let begins = has_mark::<N>(written, text, 0);
+    let ends = has_mark::<N>(written, text, text.len() - N);
+    !(begins | ends)
+}
+
 /// Whether no byte is marked.
 #[inline(always)]
 pub(crate) fn is_unmarked(written: Written, text: &[u8]) -> bool
@@ -68,8 +81,9 @@ pub(crate) fn is_unmarked(written: Written, text: &[u8]) -> bool
     match text.len() {
         0 => true,
         1..=3 => is_unmarked_by::<1>(written, text),
-        4..=7 => is_unmarked_by::<4>(written, text),
-        8..=15 => is_unmarked_by::<8>(written, text),
+        4..=8 => are_both_unmarked::<4>(written, text),
+        9..=16 => are_both_unmarked::<8>(written, text),
+        17..=32 => are_both_unmarked::<16>(written, text),
         _ => is_unmarked_by::<16>(written, text),
     }
 }

@@ -1,8 +1,8 @@
 //! What is written of texts and boxes, one after the other.
 ghost use Rattle.std.specs.List.{list_all, prefix_len};
-ghost use Rattle.std.specs.Prelude.{IfOk, OnOk, false, get_or, length, not, take, true, ◌++◌, ◌<◌, ◌≡◌, ◌≤◌};
+ghost use Rattle.std.specs.Prelude.{IfOk, OnOk, drop, false, get_or, length, not, take, true, ◌+◌, ◌++◌, ◌-◌, ◌<◌, ◌==◌, ◌≡◌, ◌≤◌};
 ghost use Rattle.tl_tree_extract.specs.Flowing.{a_space, after_begin, after_end, after_item, after_items, ahead, at_begin, at_edge, begun, is_break, is_white, item_of, item_written, lines_written, stop, stopped, text_items, with_blank, with_line, written};
-ghost use Rattle.tl_tree_extract.specs.Inner.Runs.{after_run, has_idle_space, is_plain, past_white, run_written};
+ghost use Rattle.tl_tree_extract.specs.Inner.Runs.{AreSmooth, after_run, has_idle_space, is_plain, is_rough, past_white, run_written};
 
 use crate::text::display::Display;
 use memchr::{memchr, memchr3};
@@ -166,6 +166,7 @@ impl Flow {
     }
 
     // Writes bytes of a line.
+    #[inline(always)]
     fn put_run(self, run: &[u8], out: &mut Vec<u8>) -> Result<Flow, AllocError>
         ensures text { OnOk result (out.new.items ≡ out.old.items ++ run_written self run.now) }
         ensures flow { IfOk result (λ flow. flow ≡ after_run self run.now) }
@@ -218,6 +219,7 @@ impl Flow {
     }
 
     // Writes a text run by run.
+    #[inline(never)]
     fn put_runs(self, is_kept: bool, text: &[u8], out: &mut Vec<u8>) -> Result<Flow, AllocError>
         ensures text { OnOk result (out.new.items
             ≡ out.old.items ++ written self (text_items is_kept text.now)) }
@@ -253,6 +255,7 @@ impl Flow {
 
     // Writes a text whose white space is collapsed: what stands in a line and has one space between
     // two words at once.
+    #[inline(never)]
     fn put_collapsed(self, text: &[u8], out: &mut Vec<u8>) -> Result<Flow, AllocError>
         ensures text { OnOk result (out.new.items
             ≡ out.old.items ++ written self (text_items false text.now)) }
@@ -272,7 +275,29 @@ impl Flow {
         }
     }
 
+    // Writes a text whose white space is collapsed. Most stand as they are but for white space
+    // before them and a space behind them, or are white space alone.
+    #[inline(never)]
+    fn put_spaced(self, text: &[u8], out: &mut Vec<u8>) -> Result<Flow, AllocError>
+        ensures text { OnOk result (out.new.items
+            ≡ out.old.items ++ written self (text_items false text.now)) }
+        ensures flow { IfOk result (λ flow. flow ≡ after_items self (text_items false text.now)) }
+    {
+        let (white, words) = text.split_at(white_len(text));
+        let flow = self.past(white);
+        if words.is_empty() {
+            return Ok(flow);
+        }
+        let (line, space) = words.split_at(spaceless_len(words));
+        if is_smooth(line) {
+            let behind = flow.put_run(line, out)?;
+            return Ok(behind.past(space));
+        }
+        flow.put_collapsed(words, out)
+    }
+
     /// Writes a text, whose white space stands as it is or is collapsed.
+    #[inline(always)]
     pub(crate) fn put_text(
         self,
         is_kept: bool,
@@ -285,10 +310,12 @@ impl Flow {
             (λ flow. flow ≡ after_items self (text_items is_kept text.now)) }
     {
         if is_kept {
-            self.put_runs(true, text, out)
-        } else {
-            self.put_collapsed(text, out)
+            return self.put_runs(true, text, out);
         }
+        if is_smooth(text) {
+            return self.put_run(text, out);
+        }
+        self.put_spaced(text, out)
     }
 }
 
@@ -310,6 +337,23 @@ fn white_len(text: &[u8]) -> usize
         }
     }
     text.len()
+}
+
+// How many bytes stand before a space at the end.
+#[inline(always)]
+#[tactic(auto, using(crate::proofs::Spaced::space_behind, crate::proofs::Spaced::none_behind))]
+fn spaceless_len(text: &[u8]) -> usize
+    ensures within { result ≤ length text.now }
+    ensures space { list_all is_white (drop result text.now) ≡ true }
+{
+    let [.., last] = text else {
+        return 0;
+    };
+    if *last == b' ' {
+        text.len() - 1
+    } else {
+        text.len()
+    }
 }
 
 // How many bytes stand before the first white space that is no space, without a space right before
@@ -341,6 +385,67 @@ fn has_idle_space(text: &[u8]) -> bool
         found |= (text[place - 1] == b' ') & (text[place] == b' ');
     }
     found | (*last == b' ')
+}
+
+// Whether a byte is white space and stands behind a space, or is no space.
+#[inline(always)]
+fn is_rough(before: u8, byte: u8) -> bool
+    ensures { result ≡ is_rough before byte }
+{
+    ((before == b' ') & (byte == b' ')) | (byte == b'\n') | (byte == b'\t') | (byte == b'\r')
+}
+
+// Whether one of N bytes from a place on is rough: no branch, so that they are looked at together.
+#[inline(always)]
+#[tactic(auto, using(crate::proofs::Smooth::one_more))]
+fn has_rough<const N: usize>(text: &[u8], start: usize) -> bool
+    requires some { 0 < start }
+    requires within { start + N ≤ length text.now }
+    ensures { result ≡ false → AreSmooth text.now start (start + N) }
+{
+    let mut found = false;
+    for place in 0..N {
+        found |= is_rough(text[start + place - 1], text[start + place]);
+    }
+    found
+}
+
+// Whether no byte behind the first is rough, by N bytes at once.
+#[inline(always)]
+#[tactic(auto, using(crate::proofs::Smooth::joined))]
+fn is_smooth_by<const N: usize>(text: &[u8]) -> bool
+    requires some { 0 < N }
+    requires long { N < length text.now }
+    ensures { result ≡ true → AreSmooth text.now 1 (length text.now) }
+{
+    let mut start = 1;
+    while N < text.len() - start {
+        if has_rough::<N>(text, start) {
+            return false;
+        }
+        start += N;
+    }
+    !has_rough::<N>(text, text.len() - N)
+}
+
+/// Whether a text is written as it is where its white space is collapsed, as most are.
+#[inline(always)]
+pub(crate) fn is_smooth(text: &[u8]) -> bool
+    ensures begins { result ≡ true → is_white (get_or text.now 0 32) ≡ false }
+    ensures ends { result ≡ true → (get_or text.now (length text.now - 1) 32 == 32) ≡ false }
+    ensures smooth { result ≡ true → AreSmooth text.now 1 (length text.now) }
+{
+    let [first, .., last] = text else {
+        return false;
+    };
+    if is_white(*first) || *last == b' ' {
+        return false;
+    }
+    match text.len() {
+        0..=8 => is_smooth_by::<1>(text),
+        9..=16 => is_smooth_by::<8>(text),
+        _ => is_smooth_by::<16>(text),
+    }
 }
 
 /// How many bytes stand before the first line feed.
