@@ -22,3 +22,4 @@ pub mod Missing
 pub mod Refusals
 pub mod Misread
 pub mod Reaches
+pub mod Apart

@@ -5,3 +5,4 @@ pub mod Seams
 pub mod Tails
 pub mod Causes
 pub mod Limits
+pub mod Apart
