@@ -23,3 +23,4 @@ pub mod Refusals
 pub mod Misread
 pub mod Reaches
 pub mod Apart
+pub mod Gone

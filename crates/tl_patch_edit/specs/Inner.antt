@@ -6,3 +6,4 @@ pub mod Tails
 pub mod Causes
 pub mod Limits
 pub mod Apart
+pub mod CommentAsks

@@ -2,6 +2,7 @@
 #![tactic(auto)]
 
 mod ask;
+mod comments;
 mod compare;
 mod edit;
 mod element_name;
@@ -24,6 +25,7 @@ mod tail;
 mod wanted;
 
 pub use ask::{Content, ElementPatch, PlacedPatch};
+pub use comments::{CommentError, without_comments};
 pub use error::EditError;
 pub use reach::{PageStretches, Stretch, stretches};
 pub use refused::{refusals_at, unstarted_at};
