@@ -22,3 +22,5 @@ pub mod Missing
 pub mod Refusals
 pub mod Misread
 pub mod Reaches
+pub mod Apart
+pub mod Gone

@@ -20,12 +20,12 @@ use Rattle.tl_patch_edit.proofs.Edited.{start_of}
 
 -- the token of a piece
 
-record TokenAt (page : List ℕ) (ts : List Token) (number place : ℕ) (p : Piece) : Type 0 where
-  token : Token
-  is : slice_get ts number ≡ Some token
-  fits : IsToken page token place p
+pub record TokenAt (page : List ℕ) (ts : List Token) (number place : ℕ) (p : Piece) : Type 0 where
+  pub token : Token
+  pub is : slice_get ts number ≡ Some token
+  pub fits : IsToken page token place p
 
-token_at : (page : List ℕ) (ts : List Token) (qs : List (ℕ × Piece)) (number place : ℕ) (p : Piece) → AreTokens page ts qs → slice_get qs number ≡ Some (place, p) → TokenAt page ts number place p
+pub token_at : (page : List ℕ) (ts : List Token) (qs : List (ℕ × Piece)) (number place : ℕ) (p : Piece) → AreTokens page ts qs → slice_get qs number ≡ Some (place, p) → TokenAt page ts number place p
 token_at page [] [] number place p h e = cc
 token_at page [] (q ∷ qs) number place p h e = absurd h
 token_at page (t ∷ ts) [] number place p h e = absurd h
@@ -36,7 +36,7 @@ token_at page (t ∷ ts) (q ∷ qs) (suc number) place p h e =
     let r = token_at page ts qs number place p h.1 e in
     record { token = r.token; is = r.is; fits = r.fits }
 
-kind_is : (k : TokenKind) (ts : List HtmlToken) → IsKind k ts → IsStartTag ts → k ≡ kind.StartTag
+pub kind_is : (k : TokenKind) (ts : List HtmlToken) → IsKind k ts → IsStartTag ts → k ≡ kind.StartTag
 kind_is kind.StartTag ts h s = refl
 kind_is kind.Text (StartTag n a c ∷ []) h s = absurd (true≢false (sym h))
 kind_is kind.EndTag (StartTag n a c ∷ []) h s = absurd h
@@ -63,7 +63,7 @@ no_earlier (p ∷ ps) place (suc n) b y e =
     let l : place + length p.bytes ≤ b = no_earlier ps (place + length p.bytes) n b y e in
     omega arith
 
-ends_before : (ps : List Piece) (place m n a b : ℕ) (x y : Piece) → m < n → slice_get (placed place ps) m ≡ Some (a, x) → slice_get (placed place ps) n ≡ Some (b, y) → a + length x.bytes ≤ b
+pub ends_before : (ps : List Piece) (place m n a b : ℕ) (x y : Piece) → m < n → slice_get (placed place ps) m ≡ Some (a, x) → slice_get (placed place ps) n ≡ Some (b, y) → a + length x.bytes ≤ b
 ends_before [] place m n a b x y l e f = cc
 ends_before (p ∷ ps) place zero zero a b x y l e f = absurd (omega arith)
 ends_before (p ∷ ps) place zero (suc n) a b x y l e f =

@@ -57,7 +57,7 @@ reached tokens places at d start l s =
     let last : Contains (take at places ++ place ∷ []) place = Contains-append_right (take at places) (place ∷ []) place (0, omega arith, refl) in
     inr (place, start.token, subst (λ (xs : List ℕ). Contains xs place) (sym (take_more places at d l)) last, s)
 
-parted : (xs : List ℕ) (at d : ℕ) → at < length xs → xs ≡ take at xs ++ get_or xs at d ∷ drop (at + 1) xs
+pub parted : (xs : List ℕ) (at d : ℕ) → at < length xs → xs ≡ take at xs ++ get_or xs at d ∷ drop (at + 1) xs
 parted xs at d l = sym (take-append-drop at xs) ∙ ap (λ (ys : List ℕ). take at xs ++ ys) (drop_more xs at d l)
 
 pub missing : (tokens : List Token) (places : List ℕ) (at from d : ℕ) (e : EditError) → at < length places → ReachesFrom tokens (take at places) from →
@@ -91,11 +91,11 @@ starts_refused page tokens patches (error.ReadOtherwise p) t h = absurd h
 
 -- places of patches
 
-places_length : (patches : List PlacedPatch) → length (places_of (patches_view patches)) ≡ length patches
+pub places_length : (patches : List PlacedPatch) → length (places_of (patches_view patches)) ≡ length patches
 places_length [] = refl
 places_length (p ∷ patches) = ap suc (places_length patches)
 
-place_of : (patches : List PlacedPatch) (at : ℕ) (d : PlacedPatch) (n : ℕ) → at < length patches → get_or (places_of (patches_view patches)) at n ≡ (get_or patches at d).place
+pub place_of : (patches : List PlacedPatch) (at : ℕ) (d : PlacedPatch) (n : ℕ) → at < length patches → get_or (places_of (patches_view patches)) at n ≡ (get_or patches at d).place
 place_of [] at d n l = absurd (omega arith)
 place_of (p ∷ patches) zero d n l = refl
 place_of (p ∷ patches) (suc at) d n l = place_of patches at d n (omega arith)

@@ -5,3 +5,5 @@ pub mod Seams
 pub mod Tails
 pub mod Causes
 pub mod Limits
+pub mod Apart
+pub mod CommentAsks

@@ -10,3 +10,4 @@ pub mod Kept
 pub mod Inner
 pub mod Stretches
 pub mod Examples
+pub mod Comments

@@ -27,7 +27,7 @@ use tl_html_parts::tag_parts;
 use tl_html_tokens::{Token, TokenKind, tokens};
 
 // Whether a token is a start tag at a place.
-fn is_start_at(token: &Token, place: usize) -> bool
+pub(crate) fn is_start_at(token: &Token, place: usize) -> bool
     ensures start { result ≡ true → token.now.start ≡ place }
     ensures kind { result ≡ true → token.now.kind ≡ StartTag }
     ensures not { result ≡ false → token.now.start ≡ place → token.now.kind ≡ StartTag → ⊥ }

@@ -2,6 +2,7 @@
 #![tactic(auto)]
 
 mod ask;
+mod comments;
 mod compare;
 mod edit;
 mod element_name;
@@ -16,6 +17,7 @@ mod put;
 mod raw_text;
 mod reach;
 mod ready;
+mod refused;
 mod seam;
 mod several;
 mod tag;
@@ -23,6 +25,8 @@ mod tail;
 mod wanted;
 
 pub use ask::{Content, ElementPatch, PlacedPatch};
+pub use comments::{CommentError, without_comments};
 pub use error::EditError;
 pub use reach::{PageStretches, Stretch, stretches};
+pub use refused::{refusals_at, unstarted_at};
 pub use several::{patch_each, patch_element, patch_elements};

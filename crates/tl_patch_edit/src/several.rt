@@ -59,7 +59,7 @@ fn meant_at<'n>(
 }
 
 // What a patch asks for of its element.
-fn planned_by<'n>(
+pub(crate) fn planned_by<'n>(
     alloc: Global,
     page: &'n [u8],
     one: MeantPatch<'n>,
@@ -79,14 +79,19 @@ fn planned_by<'n>(
 }
 
 // Whether an element begins in what was taken away.
-fn is_gone(gone: Gone, number: usize) -> bool
+pub(crate) fn is_gone(gone: Gone, number: usize) -> bool
     ensures { result ≡ is_gone (gone_view gone) number }
 {
     gone.from < number && number < gone.until
 }
 
 // What is taken away after a patch of an element.
-fn gone_after(patch: ElementPatch<'_>, number: usize, planned: Planned<'_>, gone: Gone) -> Gone
+pub(crate) fn gone_after(
+    patch: ElementPatch<'_>,
+    number: usize,
+    planned: Planned<'_>,
+    gone: Gone,
+) -> Gone
     ensures { gone_view result ≡ gone_after (patch_view patch.entry) number
         (planned_view planned.entry) (gone_view gone) }
 {
@@ -320,7 +325,7 @@ fn push_patch<'n>(one: PlacedPatch<'n>, out: &mut Vec<PlacedPatch<'n>>) -> Resul
 }
 
 // This patch at each of these places.
-fn each_at<'n>(
+pub(crate) fn each_at<'n>(
     alloc: Global,
     places: &[usize],
     patch: ElementPatch<'n>,

@@ -1,10 +1,11 @@
 -- What crosses the elements of a page.
-use Rattle.std.proofs.Common.{Bool, List, None, Option, Some, ap, arith, false, get_or, inl, inr, length, refl, slice_get, subst, sym, true, ℕ, ◌+◌, ◌-◌, ◌<◌, ◌∙◌, ◌≡◌, ◌≤◌}
+use Rattle.std.proofs.Common.{Bool, List, None, Option, Some, [], ap, append-nil, arith, false, get_or, inl, inr, length, refl, slice_get, subst, sym, true, ℕ, ◌+◌, ◌++◌, ◌-◌, ◌<◌, ◌∙◌, ◌∷◌, ◌≡◌, ◌≤◌}
 use Rattle.std.proofs.lemmas.Bool.{cases_Bool, ltb-false, ltb-true}
 use Rattle.std.proofs.lemmas.Option.{MatchOption-at_none, MatchOption-at_some, get_or_from_slice_get, none-some, same_Some, slice_get-get_or, slice_get_within}
 use Rattle.std.proofs.lemmas.List.{get_or_default}
-use Rattle.std.proofs.lemmas.List.Elements.{Contains-get_or}
+use Rattle.std.proofs.lemmas.List.Elements.{All-append, All-cons, Contains-get_or}
 use Rattle.std.specs.List.{All, Contains}
+use Rattle.std.specs.Option.{option_to_list}
 use Rattle.std.specs.Prelude.{IfNone, IfSome}
 use Rattle.tl_patch_edit.specs.Stretches.{stretches, tail_begin}
 use Rattle.tl_patch_edit.specs.declared.reach.Stretch.{Stretch}
@@ -175,3 +176,23 @@ pub one_crossed_of : (page : List ℕ) (tree : Tree) (tail now : ℕ) (numbers :
     IfSome found (λ (crossed : Crossed). IsOneCrossed page tree numbers crossed.place crossed.at)
 one_crossed_of page tree tail now numbers elements all None e t n each h = tt
 one_crossed_of page tree tail now numbers elements all (Some x) e t n each h = crossed_of page tree now numbers elements all x e (n ∙ t) each h
+
+-- all that aren't whole
+
+pub crossed_more : (elements : List Keyed) (tree : Tree) (tail now : ℕ) (numbers : List ℕ) (at d : ℕ) (found : Option Crossed) (old new : List Crossed) → now ≡ tail → at < length numbers →
+    IfSome found (IsCrossedOf elements tree now (get_or numbers at d)) → new ≡ old ++ option_to_list found → All (IsOneCrossedIn elements tree tail numbers) old → All (IsOneCrossedIn elements tree tail numbers) new
+crossed_more elements tree tail now numbers at d None old new t l w e a = subst (All (IsOneCrossedIn elements tree tail numbers)) (sym (e ∙ append-nil old)) a
+crossed_more elements tree tail now numbers at d (Some crossed) old new t l w e a =
+    let P : Crossed → Type 0 = IsOneCrossedIn elements tree tail numbers in
+    let is : P crossed = record {
+      number = get_or numbers at d;
+      among = Contains-get_or numbers at d l;
+      is = subst (λ n. IsCrossedOf elements tree n (get_or numbers at d) crossed) t w;
+    } in
+    let one : All P (crossed ∷ []) = All-cons P crossed [] is (λ k d' m. absurd (omega arith)) in
+    subst (All P) (sym e) (All-append P old (crossed ∷ []) a one)
+
+pub all_crossed_of : (page : List ℕ) (tree : Tree) (tail now : ℕ) (numbers : List ℕ) (elements : List Keyed) (all : List Stretch) (found : List Crossed) → all ≡ stretches page → tail ≡ tail_begin page → now ≡ tail →
+    ((one : Keyed) → Contains elements one → Contains all (stretch_of_keyed one)) → All (IsOneCrossedIn elements tree now numbers) found →
+    All (λ (crossed : Crossed). IsOneCrossed page tree numbers crossed.place crossed.at) found
+all_crossed_of page tree tail now numbers elements all found e t n each h = λ k d l. crossed_of page tree now numbers elements all (get_or found k d) e (n ∙ t) each (h k d l)

@@ -6,3 +6,4 @@ pub mod Places
 pub mod Reasons
 pub mod Sources
 pub mod Worked
+pub mod Told

@@ -1,3 +1,4 @@
 -- What the proofs and private functions of this crate cite, and no public clause.
+pub mod Known
 pub mod Ranges
 pub mod Sources

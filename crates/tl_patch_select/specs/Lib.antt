@@ -8,3 +8,5 @@ pub mod Edited
 pub mod Reasons
 pub mod Inner
 pub mod Examples
+pub mod Partly
+pub mod Uncommented

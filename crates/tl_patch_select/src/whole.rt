@@ -1,6 +1,7 @@
 //! Elements of a tree that aren't whole in the bytes of the page.
 ghost use Rattle.std.specs.List.{All, Contains};
-ghost use Rattle.std.specs.Prelude.{IfNone, IfOk, IfSome, OnOk, false, map, true, ◌+◌, ◌≡◌, ℕ};
+ghost use Rattle.std.specs.Option.{option_to_list};
+ghost use Rattle.std.specs.Prelude.{IfNone, IfOk, IfSome, OnOk, false, map, true, ◌+◌, ◌++◌, ◌≡◌, ℕ};
 ghost use Rattle.tl_patch_edit.specs.declared.reach.Stretch.{Stretch};
 ghost use Rattle.tl_patch_select.specs.Inner.Ranges.{IsRising};
 ghost use Rattle.tl_patch_select.specs.Inner.Sources.{AreRows, AreRowsUpTo, AreSources, IsCrossedIn, IsCrossedOf, IsOneCrossedIn, IsWholeAt, IsWholeOf, keyed_stretch, stretch_of_keyed, turned};
@@ -14,10 +15,10 @@ use tl_patch_edit::{Stretch, stretches};
 use tl_tree::Tree;
 
 /// Where the start tag begins of an element that isn't whole, and what crosses it.
-#[derive(Clone, Copy)]
-pub(crate) struct Crossed {
-    pub(crate) place: usize,
-    pub(crate) at: usize,
+#[derive(Clone, Copy, PartialEq, Eq, Debug)]
+pub struct Crossed {
+    pub place: usize,
+    pub at: usize,
 }
 
 // Where rows come from that do so before the tail of the page: by their numbers, and by places.
@@ -279,4 +280,53 @@ pub(crate) fn find_crossed(
     let elements = in_order(alloc, found.elements.as_slice())?;
     let mut sources = Sources::of(alloc, tree, found.tail)?;
     Ok(last_crossed(elements.as_slice(), &mut sources, tree, numbers))
+}
+
+fn push_if(found: Option<Crossed>, all: &mut Vec<Crossed>) -> Result<(), AllocError>
+    ensures { OnOk result (all.new.items ≡ all.old.items ++ option_to_list found) }
+{
+    if let Some(crossed) = found {
+        all.push(crossed)?;
+    }
+    Ok(())
+}
+
+// Those of some elements that aren't whole.
+fn all_crossed(
+    alloc: Global,
+    elements: &[Keyed],
+    sources: &mut Sources,
+    tree: &Tree<'_>,
+    numbers: &[usize],
+) -> Result<Vec<Crossed>, AllocError>
+    requires rising { IsRising elements.now }
+    requires sources { AreSources tree.now sources.old }
+    ensures { IfOk result (λ all.
+        All (IsOneCrossedIn elements.now tree.now sources.old.tail numbers.now) all.items) }
+{
+    let mut all = Vec::new(alloc);
+    for number in numbers {
+        let found = crossed_one(elements, sources, tree, *number);
+        push_if(found, &mut all)?;
+    }
+    Ok(all)
+}
+
+/// Those of some elements of the tree of a page that aren't whole. An element in another one stands
+/// before it, so that one steps over it.
+pub(crate) fn find_all_crossed(
+    alloc: Global,
+    page: &[u8],
+    tree: &Tree<'_>,
+    numbers: &[usize],
+) -> Result<Vec<Crossed>, AllocError>
+    ensures { IfOk result (λ all. All
+        (λ crossed. IsOneCrossed page.now tree.now numbers.now crossed.place crossed.at)
+        all.items) }
+{
+    let found = stretches(alloc, page)?;
+    let elements = in_order(alloc, found.elements.as_slice())?;
+    let mut sources = Sources::of(alloc, tree, found.tail)?;
+    let all = all_crossed(alloc, elements.as_slice(), &mut sources, tree, numbers)?;
+    Ok(all)
 }
