@@ -14,7 +14,8 @@ use Rattle.tl_patch_edit.specs.declared.error.EditError.TheVariants as error
 
 -- a token is the start tag at a place, or begins behind it
 abbrev pub IsReached : Token → ℕ → Type 0
-IsReached token place = (place < token.start) ⊎ ((token.start ≡ place) × (token.kind ≡ kind.StartTag))
+IsReached token place =
+    (place < token.start) ⊎ ((token.start ≡ place) × (token.kind ≡ kind.StartTag))
 
 -- so is the token of a number, if there is one
 abbrev pub IsReachedAt : List Token → ℕ → ℕ → Type 0
