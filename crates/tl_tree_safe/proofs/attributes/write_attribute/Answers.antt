@@ -16,4 +16,4 @@ returns-then-stays_whole c =
 
 pub returns-then-not-is_listed_key : goal.returns-then-not-is_listed_key
 returns-then-not-is_listed_key c =
-    unlisted_key (listed_words c.args.lists.now) (attribute_said c.args.attribute.now) c.args.out.now.items (sym c.is_listed_key.ensures ∙ c.if-not-is_listed_key.false)
+    unlisted_key (listed_words c.args.lists.now) (attribute_said c.args.attribute.now) c.args.out.now.items (sym c.is_listed_key.ensures ∙ c.if-not-is_listed_key.true)
