@@ -138,6 +138,16 @@ Edits in a page's own bytes:
   <ul>
   <LI>Tea & milk
   <li>Bread</ul>Closed
+  $ printf 'Tea<!-- hot --> & milk<!--[if IE]><hr><![endif]-->\n' >menu.html
+  $ tl remove --comments menu.html
+  Tea & milk
+  $ tl remove --comments='^\[if ' menu.html
+  Tea<!-- hot --> & milk
+  $ printf '<br>Tea<p>Bread</p><q>Jam' | tl append --skip 'br, p, q' '!'
+  <br>Tea<p>Bread!</p><q>Jam (no-eol)
+  tl: -: skipped at line 1, column 1: <br> isn't closed, has no content, or can't be edited this way: close it, or edit its attributes (err)
+  tl: -: skipped at line 1, column 20: <q> isn't closed, has no content, or can't be edited this way: close it, or edit its attributes (err)
+  [2]
   $ printf '<p>Bread</p>' | tl append --html p '<div>x</div>'
   <p>Bread<div>x</div></p> (no-eol)
   tl: -: browsers build another tree than is meant by the edit that begins at line 1, column 1 (err)

@@ -214,3 +214,151 @@ A text may come from a file, or from standard input; one that begins with @ has 
   $ printf x | tl append p @-
   tl: standard input can't be both the page and what is put in (err)
   [2]
+
+With --skip what can't be changed is told and passed over, and the others are changed.
+
+  $ printf '<p>a</p></p><p>b' >stray
+  $ tl set p class k stray
+  tl: stray: the element that browsers add at byte 12 has no tag to edit (err)
+  [2]
+  $ tl set --skip p class k stray
+  <p class="k">a</p></p><p class="k">b (no-eol)
+  tl: stray: skipped at line 1, column 13: browsers add an element before this, which has no tag: write its start tag, or drop a stray end tag (err)
+  [2]
+  $ tl set --skip p class --from-text stray
+  <p class="a">a</p></p><p class="b">b (no-eol)
+  tl: stray: skipped at line 1, column 13: browsers add an element before this, which has no tag: write its start tag, or drop a stray end tag (err)
+  [2]
+  $ tl unset --skip p class stray
+  <p>a</p></p><p>b (no-eol)
+  $ tl set -iv --skip p class k stray
+  tl: stray: 2 places (err)
+  tl: stray: skipped at line 1, column 13: browsers add an element before this, which has no tag: write its start tag, or drop a stray end tag (err)
+  [2]
+  $ cat stray
+  <p class="k">a</p></p><p class="k">b (no-eol)
+  $ tl set --skip --dry-run p class j stray
+  stray:1:1
+  stray:1:23
+  tl: stray: skipped at line 1, column 23: browsers add an element before this, which has no tag: write its start tag, or drop a stray end tag (err)
+  [2]
+  $ tl set --skip --diff p class j stray
+  --- stray
+  +++ stray
+  @@ -1,1 +1,1 @@
+  -<p class="k">a</p></p><p class="k">b
+  \ No newline at end of file
+  +<p class="j">a</p></p><p class="j">b
+  \ No newline at end of file
+  tl: stray: skipped at line 1, column 23: browsers add an element before this, which has no tag: write its start tag, or drop a stray end tag (err)
+  [2]
+  $ printf '<p>a</p>' | tl set --skip p class k
+  <p class="k">a</p> (no-eol)
+  $ printf '</p>' | tl set --skip p class k
+  </p> (no-eol)
+  [1]
+  $ printf '</p></p>\n</p>' | tl set --skip --ok p class k
+  </p></p>
+  </p> (no-eol)
+  $ printf '<div>a<b>c</div>d</b><b>e</b>' | tl rename b i
+  tl: -: only attributes of the element at line 1, column 7 can be edited: by its tags it has other content than in browsers (see line 1, column 17) (err)
+  [2]
+  $ printf '<div>a<b>c</div>d</b><b>e</b>' | tl rename --skip b i
+  <div>a<b>c</div>d</b><i>e</i> (no-eol)
+  tl: -: skipped at line 1, column 7: <b> has other content by its tags than in browsers: only its attributes can be edited (err)
+  [2]
+  $ printf '<br>a<p>b</p><q>c' | tl append --skip 'br, p, q' x
+  <br>a<p>bx</p><q>c (no-eol)
+  tl: -: skipped at line 1, column 1: <br> isn't closed, has no content, or can't be edited this way: close it, or edit its attributes (err)
+  tl: -: skipped at line 1, column 14: <q> isn't closed, has no content, or can't be edited this way: close it, or edit its attributes (err)
+  [2]
+  $ printf '<br>a<p>b</p><q>c' | tl prepend --skip 'br, p, q' x
+  <br>a<p>xb</p><q>xc (no-eol)
+  tl: -: skipped at line 1, column 1: <br> isn't closed, has no content, or can't be edited this way: close it, or edit its attributes (err)
+  [2]
+  $ printf '<ul><li>a<li>b</ul><table><tr><td>c</table>' | tl fill --skip 'li, tbody, td' x
+  <ul><li>x<li>x</ul><table><tr><td>x</table> (no-eol)
+  tl: -: skipped at line 1, column 27: browsers add an element before this, which has no tag: write its start tag, or drop a stray end tag (err)
+  [2]
+  $ printf '<div><q>a<p>b</div><q>c' | tl remove --skip 'div, q'
+  <q>c (no-eol)
+  tl: -: skipped at line 1, column 20: <q> isn't closed, has no content, or can't be edited this way: close it, or edit its attributes (err)
+  [2]
+  $ printf '<svg><title><b>x</b></title></svg><b>y</b>' | tl set b k v
+  tl: -: the element at byte 12 has no start tag (err)
+  [2]
+  $ printf '<svg><title><b>x</b></title></svg><b>y</b>' | tl set --skip b k v
+  <svg><title><b>x</b></title></svg><b k="v">y</b> (no-eol)
+  tl: -: skipped at line 1, column 13: <b> is a tag to browsers, and text by the names of tags alone: move it out of the element it is in (err)
+  [2]
+  $ printf '<svg><title><b k>x</b></title></svg><b k>y</b>' | tl unset --skip b k
+  <svg><title><b k>x</b></title></svg><b>y</b> (no-eol)
+  tl: -: skipped at line 1, column 13: <b> is a tag to browsers, and text by the names of tags alone: move it out of the element it is in (err)
+  [2]
+  $ printf '<svg><title><b>x</b></title></svg><b>y</b>' | tl remove --skip b
+  <svg><title><b>x</b></title></svg> (no-eol)
+  tl: -: skipped at line 1, column 13: <b> is a tag to browsers, and text by the names of tags alone: move it out of the element it is in (err)
+  [2]
+  $ printf '<svg></svg><style>a</style><p>b</p>' | tl append --skip 'style, p' '<'
+  tl: -: a browser may read the text as markup in the element at line 1, after svg at line 1: leave out '<' and '&', or move the element before it (err)
+  [2]
+  $ printf '<p>\377</p></p>' | tl set --skip p k v | LC_ALL=C sed -n l
+  <p k="v">\377</p></p>$
+  tl: -: skipped at line 1, column 15: browsers add an element before this, which has no tag: write its start tag, or drop a stray end tag (err)
+  $ printf '<p>a</p></p>' | tl append --skip --strict --html p '<hr>'
+  tl: -: browsers build another tree than is meant by the edit that begins at line 1, column 1; --strict refuses it (err)
+  [2]
+
+Comments are removed in a page's own bytes: all, or those in whose text a regular expression matches. A conditional comment is one.
+
+  $ printf '<!doctype html><!--a-->\n<P>b<!--[if IE]><p>c<![endif]--><!---->d<!-->e' >noted
+  $ tl remove --comments noted
+  <!doctype html>
+  <P>bde (no-eol)
+  $ tl remove --comments='\[if ' noted
+  <!doctype html><!--a-->
+  <P>b<!---->d<!-->e (no-eol)
+  $ tl remove --comments='^$' --dry-run noted
+  noted:2:32
+  noted:2:40
+  $ tl remove -v --comments=^a --diff noted
+  --- noted
+  +++ noted
+  @@ -1,2 +1,2 @@
+  -<!doctype html><!--a-->
+  +<!doctype html>
+   <P>b<!--[if IE]><p>c<![endif]--><!---->d<!-->e
+  \ No newline at end of file
+  tl: noted: 1 place (err)
+  $ tl remove --comments=x noted
+  <!doctype html><!--a-->
+  <P>b<!--[if IE]><p>c<![endif]--><!---->d<!-->e (no-eol)
+  [1]
+  $ cp noted other && tl remove -i.bak --comments noted other
+  $ cat noted other noted.bak
+  <!doctype html>
+  <P>bde<!doctype html>
+  <P>bde<!doctype html><!--a-->
+  <P>b<!--[if IE]><p>c<![endif]--><!---->d<!-->e (no-eol)
+  $ printf 'a<!--b-->c' | tl remove --comments
+  ac (no-eol)
+  $ printf 'a<!--b-->c' | tl remove --comments -
+  ac (no-eol)
+
+Where two texts would become something else together `</>` stands between them.
+
+  $ printf 'AT&am<!--x-->p; <<!--y-->p>' | tl remove --comments
+  AT&am</>p; <</>p> (no-eol)
+  $ printf '<script><!--a--></script><title><!--b--></title><![CDATA[c]]><!d>e' | tl remove --comments
+  <script><!--a--></script><title><!--b--></title>e (no-eol)
+  $ printf '<svg><title>a<!--b--></title></svg>' | tl remove --comments
+  tl: -: the comment at line 1, column 14 can't be removed: by the names of tags alone it is text (err)
+  [2]
+  $ printf '<p>\377<!--a-->\351' | tl remove --comments | LC_ALL=C sed -n l
+  <p>\377\351$
+  $ tl remove --comments='(' noted
+  tl: invalid regular expression (err)
+  [2]
+  $ tl remove
+  tl: no selector (err)
+  [2]

@@ -1022,6 +1022,7 @@ Help names each command and each option, and words the lists.
   --add-word
   --backup
   --base
+  --comments
   --diff
   --drop-query
   --dry-run
@@ -1036,6 +1037,7 @@ Help names each command and each option, and words the lists.
   --prefix
   --remove-word
   --replace
+  --skip
   --strict
   --suffix
   --verbose

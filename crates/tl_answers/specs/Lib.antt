@@ -15,3 +15,5 @@ pub mod Rewritten
 pub mod Edits
 pub mod Meant
 pub mod Inner
+pub mod Partly
+pub mod Uncommented

@@ -87,7 +87,7 @@ fn with_tags(
 }
 
 // The changes by which nodes get their values.
-fn changes_of<'a>(
+pub(crate) fn changes_of<'a>(
     alloc: Global,
     key: &'a [u8],
     values: &'a [NewValue],

@@ -5,9 +5,9 @@ ghost use Rattle.clap.specs.declared.error.kind.ErrorKind.TheVariants.{OutOfMemo
 ghost use Rattle.tl_cli.specs.declared.args.UsageError.TheVariants.{OutOfMemory};
 
 use crate::edit_words;
-use crate::edit_words::patching;
+use crate::edit_words::{deed, patching};
 use crate::links::Links;
-use crate::patching::Patching;
+use crate::patching::{Deed, Patching};
 use crate::selected::{Selected, Wanted};
 use crate::tables::{Shape, Tables};
 use crate::task::Task;
@@ -17,7 +17,7 @@ use clap::error::ErrorKind;
 use clap::{ArgMatches, Error};
 use std::alloc::{AllocError, Global};
 use tl_answers::{Hosts, Question};
-use tl_commands::{Verb, program};
+use tl_commands::{ElementVerb, Verb, program};
 use tl_css::{Selector, SelectorError, parse};
 use tl_encoding::Encoding;
 use tl_page::VERSION;
@@ -412,13 +412,28 @@ fn table_number<'w>(matches: &ArgMatches<'w>) -> Result<Option<usize>, UsageErro
     }
 }
 
-// The files that are said. The first word is one where an option makes the value.
-fn files<'w>(alloc: Global, matches: &ArgMatches<'w>) -> Result<Vec<&'w str>, AllocError> {
-    let mut files = Vec::new(alloc);
-    if edit_words::is_rewrite(matches) {
-        if let Some(first) = matches.get_str("VALUE") {
-            files.push(first)?;
+// The word that is a file where an option stands in its place: the value where an option makes it,
+// and the selector where comments are meant.
+fn first_file<'w>(verb: Verb, matches: &ArgMatches<'w>) -> Option<&'w str> {
+    match verb {
+        Verb::Set if edit_words::is_rewrite(matches) => matches.get_str("VALUE"),
+        Verb::Element(ElementVerb::Remove) => {
+            matches.get_str("comments")?;
+            matches.get_str("SELECTOR")
         }
+        _ => None,
+    }
+}
+
+// The files that are said.
+fn files<'w>(
+    alloc: Global,
+    verb: Verb,
+    matches: &ArgMatches<'w>,
+) -> Result<Vec<&'w str>, AllocError> {
+    let mut files = Vec::new(alloc);
+    if let Some(first) = first_file(verb, matches) {
+        files.push(first)?;
     }
     if let Some(more) = matches.get_strs("FILE") {
         files.extend_from_slice(more)?;
@@ -452,6 +467,22 @@ fn lists<'w>(matches: &ArgMatches<'w>) -> ListTexts<'w> {
     }
 }
 
+// What is done with elements, or comments.
+fn element_deed<'w>(
+    alloc: Global,
+    verb: ElementVerb,
+    matches: &ArgMatches<'w>,
+    text: Option<&'w str>,
+) -> Result<Deed<'w>, UsageError<'w>> {
+    if verb == ElementVerb::Remove {
+        if let Some(deed) = edit_words::comments(alloc, matches)? {
+            return Ok(deed);
+        }
+    }
+    let edit = edit_words::element(alloc, verb, matches, text)?;
+    deed(alloc, edit, matches)
+}
+
 // What a command makes of pages.
 fn action_of<'w>(
     alloc: Global,
@@ -470,15 +501,17 @@ fn action_of<'w>(
         Verb::Outline => Question::Outline(matches.get_flag("number")),
         Verb::Set => {
             let edit = edit_words::set(alloc, matches)?;
-            return Ok(Action::Patch(patching(alloc, edit, matches, files)?));
+            let deed = deed(alloc, edit, matches)?;
+            return Ok(Action::Patch(patching(deed, matches, files)?));
         }
         Verb::Unset => {
             let edit = edit_words::unset(alloc, matches)?;
-            return Ok(Action::Patch(patching(alloc, edit, matches, files)?));
+            let deed = deed(alloc, edit, matches)?;
+            return Ok(Action::Patch(patching(deed, matches, files)?));
         }
         Verb::Element(own) => {
-            let edit = edit_words::element(alloc, own, matches, text)?;
-            return Ok(Action::Patch(patching(alloc, edit, matches, files)?));
+            let deed = element_deed(alloc, own, matches, text)?;
+            return Ok(Action::Patch(patching(deed, matches, files)?));
         }
         Verb::Sanitize if matches.get_flag("policy") => return Ok(Action::Policy(lists(matches))),
         Verb::Sanitize if matches.get_flag("removed") => {
@@ -557,7 +590,7 @@ pub fn read<'w>(
     let Some(verb) = Verb::from_word(word) else {
         return Err(UsageError::NoCommand);
     };
-    let files = files(alloc, own)?;
+    let files = files(alloc, verb, own)?;
     Ok(Args {
         action: action_of(alloc, verb, own, files.as_slice(), text)?,
         pages: pages_of(own, files, terminal)?,

@@ -1,10 +1,11 @@
 //! What the words of a command ask to be changed.
 
 use crate::args::{UsageError, selector, url};
-use crate::patching::{Patching, Target};
+use crate::patching::{Deed, Patching, Target};
 use crate::telling::Tellings;
 use clap::ArgMatches;
 use regex::Error;
+use regex::bytes::Regex;
 use std::alloc::Global;
 use tl_answers::Edit;
 use tl_commands::ElementVerb;
@@ -190,6 +191,34 @@ pub fn unset<'w>(alloc: Global, matches: &ArgMatches<'w>) -> Result<Edit<'w>, Us
     Ok(Edit::Unset(key_at(alloc, matches, "ATTRIBUTE")?))
 }
 
+/// That comments go, if an option says that.
+pub fn comments<'w>(
+    alloc: Global,
+    matches: &ArgMatches<'w>,
+) -> Result<Option<Deed<'w>>, UsageError<'w>> {
+    let Some(said) = matches.get_str("comments") else {
+        return Ok(None);
+    };
+    if said.is_empty() {
+        return Ok(Some(Deed::Comments(None)));
+    }
+    match Regex::new(alloc, said) {
+        Ok(regex) => Ok(Some(Deed::Comments(Some(regex)))),
+        Err(Error::OutOfMemory) => Err(UsageError::OutOfMemory),
+        Err(error) => Err(UsageError::NoRegex(error, said)),
+    }
+}
+
+/// Something done where the selector holds that is said.
+pub fn deed<'w>(
+    alloc: Global,
+    edit: Edit<'w>,
+    matches: &ArgMatches<'w>,
+) -> Result<Deed<'w>, UsageError<'w>> {
+    let selector = selector(alloc, matches.get_str("SELECTOR").unwrap_or(""))?;
+    Ok(Deed::Edit(selector, edit))
+}
+
 /// What is done with elements, where the file that is named for what is put has this text.
 pub fn element<'w>(
     alloc: Global,
@@ -241,13 +270,13 @@ fn tellings(matches: &ArgMatches<'_>) -> Tellings {
         has_diff: matches.get_flag("diff"),
         is_verbose: matches.get_flag("verbose"),
         is_ok: matches.get_flag("ok"),
+        is_skipping: matches.get_flag("skip"),
     }
 }
 
-/// What is changed where a selector holds.
+/// What is changed in pages, and where they go.
 pub fn patching<'w>(
-    alloc: Global,
-    edit: Edit<'w>,
+    deed: Deed<'w>,
     matches: &ArgMatches<'w>,
     files: &[&str],
 ) -> Result<Patching<'w>, UsageError<'w>> {
@@ -256,8 +285,7 @@ pub fn patching<'w>(
         return Err(UsageError::InputTwice);
     }
     Ok(Patching {
-        selector: selector(alloc, matches.get_str("SELECTOR").unwrap_or(""))?,
-        edit,
+        deed,
         text_file,
         target: target(matches, files)?,
         tellings: tellings(matches),

@@ -4,11 +4,11 @@ ghost use Rattle.tl_cli.specs.declared.own_bytes.Uneditable.TheVariants.{OutOfMe
 
 use crate::args::Pages;
 use crate::pages::encoding_in;
+use crate::refused::Refused;
 use crate::task::{Task, Unmade, execute};
 use std::alloc::{AllocError, Global};
 use std::fmt;
-use tl_answers::{Edit, Question, Refusal, edited_page};
-use tl_css::Selector;
+use tl_answers::{PartlyEdited, Question};
 use tl_encoding::{
     DecodeError, EncodeError, Encoding, decode, decode_strict, encode, encoding_said, with_marks,
     with_references, without_marks,
@@ -214,17 +214,15 @@ pub fn own_bytes(alloc: Global, encoding: Encoding, page: &str) -> Result<Vec<u8
 /// its text with marks, and what comes of that has to be read as the edited text.
 pub fn marked_bytes(
     alloc: Global,
-    edit: &Edit<'_>,
-    selector: &Selector,
-    marked: &str,
+    made: Result<PartlyEdited, Refused>,
     edited: &str,
 ) -> Result<Vec<u8>, Uneditable> {
-    let own = match edited_page(alloc, edit, selector, marked.as_bytes()) {
+    let own = match made {
         Ok(own) => own,
-        Err(Refusal::OutOfMemory) => return Err(Uneditable::OutOfMemory),
+        Err(Refused::OutOfMemory) => return Err(Uneditable::OutOfMemory),
         Err(_) => return Err(Uneditable::Joined),
     };
-    let Ok(own) = text(own.patched.bytes.as_slice()) else {
+    let Ok(own) = text(own.edited.patched.bytes.as_slice()) else {
         return Err(Uneditable::Joined);
     };
     match without_marks(alloc, own, edited)? {

@@ -5,6 +5,8 @@ ghost use Rattle.tl_page.specs.declared.failure.Failure.TheVariants.{OutOfMemory
 use crate::args::Pages;
 use crate::crossed::Crossed;
 use crate::in_place::replace;
+use crate::kept_comment::KeptComment;
+use crate::left_out::{is_some, tell_left_out};
 use crate::misread::Misread;
 use crate::other_tree::{OtherTree, tell_other_tree};
 use crate::own_bytes::{
@@ -15,19 +17,24 @@ use crate::pages::{
     unwritten, write_shown,
 };
 use crate::position::Position;
+use crate::refused::Refused;
 use crate::reports::{Answer, Report, status_of};
 use crate::task::Unmade;
 use crate::telling::{Tellings, tell_places};
 use crate::unread::{report_media, report_unread};
+use regex::bytes::Regex;
 use std::alloc::{AllocError, Global};
 use std::io::ErrorKind;
-use tl_answers::{Edit, Edited, Meant, Refusal, edited_page};
+use tl_answers::{
+    CommentRefusal, Edit, Edited, Meant, PartlyEdited, Refusal, edited_page, edited_partly,
+    uncommented_page,
+};
 use tl_css::Selector;
 use tl_diff::unified;
 use tl_encoding::{Encoding, media_of};
 use tl_page::{Failure, text};
-use tl_patch_edit::EditError;
-use tl_patch_select::{Patched, SelectionEditError};
+use tl_patch_edit::{CommentError, EditError};
+use tl_patch_select::{LeftOut, Patched, SelectionEditError};
 
 /// Where pages with changes go.
 #[derive(Clone, Copy)]
@@ -41,11 +48,19 @@ pub enum Target<'w> {
     Nowhere,
 }
 
+/// What is done with a page.
+#[derive(Drop)]
+pub enum Deed<'w> {
+    /// Something is done where a selector holds.
+    Edit(Selector, Edit<'w>),
+    /// Its comments go, or those in which a regular expression matches.
+    Comments(Option<Regex>),
+}
+
 /// What is changed.
 #[derive(Drop)]
 pub struct Patching<'w> {
-    pub selector: Selector,
-    pub edit: Edit<'w>,
+    pub deed: Deed<'w>,
     /// The file that has the text that is put, where one is named.
     pub text_file: Option<&'w str>,
     pub target: Target<'w>,
@@ -182,6 +197,37 @@ fn unedited(rt: &HostRuntime, file: &str, error: Uneditable) -> Result<Answer, F
     }
 }
 
+// A page with all changes.
+fn whole(alloc: Global, edited: Edited) -> PartlyEdited {
+    PartlyEdited {
+        edited,
+        left_out: LeftOut {
+            untagged: Vec::new(alloc),
+            crossed: Vec::new(alloc),
+            refused: Vec::new(alloc),
+        },
+    }
+}
+
+// The text of a page with changes, all of them, or those that can be made.
+fn edited_text(
+    alloc: Global,
+    patching: &Patching<'_>,
+    text: &[u8],
+) -> Result<PartlyEdited, Refused> {
+    match &patching.deed {
+        Deed::Comments(regex) => {
+            let patched = uncommented_page(alloc, regex.as_ref(), text)?;
+            let meant = Meant::Unasked;
+            Ok(whole(alloc, Edited { patched, meant }))
+        }
+        Deed::Edit(selector, edit) if patching.tellings.is_skipping => {
+            Ok(edited_partly(alloc, edit, selector, text)?)
+        }
+        Deed::Edit(selector, edit) => Ok(whole(alloc, edited_page(alloc, edit, selector, text)?)),
+    }
+}
+
 // What comes of a page with changes.
 fn put_patched(
     rt: &HostRuntime,
@@ -203,14 +249,8 @@ fn put_patched(
         }
         None => own_bytes(rt.alloc(), page.encoding, edited),
         Some(marked) => {
-            let marked = marked.as_str();
-            marked_bytes(
-                rt.alloc(),
-                &patching.edit,
-                &patching.selector,
-                marked,
-                edited,
-            )
+            let made = edited_text(rt.alloc(), patching, marked.as_bytes());
+            marked_bytes(rt.alloc(), made, edited)
         }
     };
     match made {
@@ -258,6 +298,63 @@ fn put_edited(
     Ok(answer)
 }
 
+// What comes of a page with those changes that can be made. The others are told.
+fn put_partly(
+    rt: &HostRuntime,
+    patching: &Patching<'_>,
+    is_strict: bool,
+    file: &str,
+    page: &Editable,
+    own: &PartlyEdited,
+) -> Result<Answer, Failure> {
+    let answer = put_edited(rt, patching, is_strict, file, page, &own.edited)?;
+    if !answer.is_made() || !is_some(&own.left_out) {
+        return Ok(answer);
+    }
+    tell_left_out(rt, file, page.text.as_bytes(), &own.left_out)?;
+    Ok(Answer::Failed(Failure::Refused))
+}
+
+// Says on standard error why a page isn't edited.
+fn refused_edit(
+    rt: &HostRuntime,
+    file: &str,
+    page: &[u8],
+    why: Refusal,
+) -> Result<Answer, Failure> {
+    match why {
+        Refusal::OutOfMemory => Err(Failure::OutOfMemory),
+        Refusal::Tag(error) => Ok(not_understood(rt, file, &error)),
+        Refusal::Element(SelectionEditError::Refused(EditError::Misread(place, cause))) => {
+            let misread = Misread { page, place, cause };
+            Ok(not_understood(rt, file, &misread))
+        }
+        Refusal::Element(SelectionEditError::NotWhole(place, at)) => {
+            let crossed = Crossed { page, place, at };
+            Ok(not_understood(rt, file, &crossed))
+        }
+        Refusal::Element(error) => Ok(not_understood(rt, file, &error)),
+        Refusal::Unread(error) => unmade(rt, file, page, Unmade::from(error)),
+    }
+}
+
+// Says on standard error why a page keeps its comments.
+fn refused_comments(
+    rt: &HostRuntime,
+    file: &str,
+    page: &[u8],
+    why: CommentRefusal,
+) -> Result<Answer, Failure> {
+    match why {
+        CommentRefusal::OutOfMemory => Err(Failure::OutOfMemory),
+        CommentRefusal::Comment(CommentError::NoComment(at)) => {
+            Ok(not_understood(rt, file, &KeptComment { page, at }))
+        }
+        CommentRefusal::Comment(error) => Ok(not_understood(rt, file, &error)),
+        CommentRefusal::Unread(error) => unmade(rt, file, page, Unmade::from(error)),
+    }
+}
+
 // Changes the text of a page.
 fn patch_text(
     rt: &HostRuntime,
@@ -270,28 +367,11 @@ fn patch_text(
         Ok(own) => own.as_bytes(),
         Err(error) => return Ok(not_understood(rt, file, &error)),
     };
-    match edited_page(rt.alloc(), &patching.edit, &patching.selector, own) {
-        Ok(edited) => put_edited(rt, patching, is_strict, file, page, &edited),
-        Err(Refusal::OutOfMemory) => Err(Failure::OutOfMemory),
-        Err(Refusal::Tag(error)) => Ok(not_understood(rt, file, &error)),
-        Err(Refusal::Element(SelectionEditError::Refused(EditError::Misread(place, cause)))) => {
-            let misread = Misread {
-                page: own,
-                place,
-                cause,
-            };
-            Ok(not_understood(rt, file, &misread))
-        }
-        Err(Refusal::Element(SelectionEditError::NotWhole(place, at))) => {
-            let crossed = Crossed {
-                page: own,
-                place,
-                at,
-            };
-            Ok(not_understood(rt, file, &crossed))
-        }
-        Err(Refusal::Element(error)) => Ok(not_understood(rt, file, &error)),
-        Err(Refusal::Unread(error)) => unmade(rt, file, own, Unmade::from(error)),
+    match edited_text(rt.alloc(), patching, own) {
+        Ok(edited) => put_partly(rt, patching, is_strict, file, page, &edited),
+        Err(Refused::Edit(why)) => refused_edit(rt, file, own, why),
+        Err(Refused::Comments(why)) => refused_comments(rt, file, own, why),
+        Err(Refused::OutOfMemory) => Err(Failure::OutOfMemory),
     }
 }
 

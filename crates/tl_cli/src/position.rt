@@ -21,6 +21,15 @@ impl Position {
         }
     }
 
+    /// That behind the bytes of a page from one up to another.
+    pub fn pass_all(&mut self, page: &[u8], from: usize, until: usize) {
+        for at in from..until {
+            if at < page.len() {
+                self.pass(at, page[at]);
+            }
+        }
+    }
+
     /// The column of a byte on its line, from 1.
     pub fn column(&self, at: usize) -> usize {
         at.saturating_sub(self.start).saturating_add(1)

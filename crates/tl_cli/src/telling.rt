@@ -12,6 +12,8 @@ pub struct Tellings {
     pub is_verbose: bool,
     /// That nothing is found is no failure.
     pub is_ok: bool,
+    /// What can't be changed is told and passed over.
+    pub is_skipping: bool,
 }
 
 impl Tellings {

@@ -1,6 +1,8 @@
 //! The commands that change elements.
-use crate::flag::HTML;
-use crate::word::{ELEMENTS, ELEMENTS_AND_NAME, ELEMENTS_AND_TEXT, Word, with_words};
+use crate::flag::{HTML, REMOVED_COMMENTS};
+use crate::word::{
+    ELEMENT_SELECTOR, ELEMENTS, ELEMENTS_AND_NAME, ELEMENTS_AND_TEXT, Word, with_words,
+};
 use clap::Command;
 use std::alloc::{AllocError, Global};
 
@@ -64,11 +66,12 @@ impl ElementVerb {
         }
     }
 
-    // Its words before the files.
+    // Its words before the files that have to be there.
     fn words(self) -> &'static [Word] {
         match self {
             ElementVerb::Rename => &ELEMENTS_AND_NAME,
-            ElementVerb::Remove | ElementVerb::Unwrap => &ELEMENTS,
+            ElementVerb::Remove => &[],
+            ElementVerb::Unwrap => &ELEMENTS,
             _ => &ELEMENTS_AND_TEXT,
         }
     }
@@ -81,10 +84,25 @@ impl ElementVerb {
     ) -> Result<Command<'w>, AllocError> {
         let command = with_words(alloc, command, self.words())?;
         match self {
-            ElementVerb::Rename | ElementVerb::Remove | ElementVerb::Unwrap => Ok(command),
+            ElementVerb::Rename | ElementVerb::Unwrap => Ok(command),
+            ElementVerb::Remove => with_comments(alloc, command),
             _ => command.arg(HTML.argument(alloc)?),
         }
     }
+}
+
+// A command with a selector, unless comments are meant.
+fn with_comments<'w>(alloc: Global, command: Command<'w>) -> Result<Command<'w>, AllocError> {
+    let selector = ELEMENT_SELECTOR.argument(alloc);
+    let comments = REMOVED_COMMENTS.argument(alloc)?;
+    command
+        .arg(selector.required_unless_present("comments")?)?
+        .arg(
+            comments
+                .num_args(0..=1)
+                .require_equals(true)
+                .default_missing_value(""),
+        )
 }
 
 const RENAMES: &str = "\
@@ -99,6 +117,7 @@ and the exit status is 1.";
 const REMOVALS: &str = "\
 Example:
   tl remove -i script *.html              remove all scripts
+  tl remove -i --comments='\\[if ' *.html  remove conditional comments
 
 Nothing else in the page changes. A page that can't be edited this way is left
 as it is, with an error that says why. If nothing matches, no file is written

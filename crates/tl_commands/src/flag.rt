@@ -355,7 +355,7 @@ pub static TARGETS: [Flag; 3] = [
 ];
 
 // What is told of changes, and which status they give.
-pub static TELLINGS: [Flag; 4] = [
+pub static TELLINGS: [Flag; 5] = [
     Flag {
         name: "diff",
         short: None,
@@ -384,7 +384,23 @@ pub static TELLINGS: [Flag; 4] = [
         help: "Refuse edits of which browsers build another tree",
         excludes: &[],
     },
+    Flag {
+        name: "skip",
+        short: None,
+        value: None,
+        help: "Skip elements that can't be edited; exit status 2",
+        excludes: &[],
+    },
 ];
+
+/// Which comments are removed, and no element.
+pub static REMOVED_COMMENTS: Flag = Flag {
+    name: "comments",
+    short: None,
+    value: Some("RE"),
+    help: "Remove comments, or those the regex RE matches",
+    excludes: &[],
+};
 
 pub static HTML: Flag = Flag {
     name: "html",

@@ -8,7 +8,8 @@ pub struct Word {
     pub help: &'static str,
 }
 
-const ELEMENT_SELECTOR: Word = Word {
+// That of `remove`, unless comments are meant.
+pub static ELEMENT_SELECTOR: Word = Word {
     name: "SELECTOR",
     help: "CSS selector, as for select",
 };
@@ -39,10 +40,10 @@ pub static VALUE: Word = Word {
 };
 
 // Those of commands that change elements.
-pub static ELEMENTS: [Word; 1] = [ELEMENT_SELECTOR];
+pub static ELEMENTS: [Word; 1] = [TAG_SELECTOR];
 
 pub static ELEMENTS_AND_NAME: [Word; 2] = [
-    ELEMENT_SELECTOR,
+    TAG_SELECTOR,
     Word {
         name: "NAME",
         help: "Name of the element, in any case",
@@ -50,7 +51,7 @@ pub static ELEMENTS_AND_NAME: [Word; 2] = [
 ];
 
 pub static ELEMENTS_AND_TEXT: [Word; 2] = [
-    ELEMENT_SELECTOR,
+    TAG_SELECTOR,
     Word {
         name: "TEXT",
         help: "Text to put in; @FILE reads it from FILE",
