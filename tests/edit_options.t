@@ -319,8 +319,8 @@ Comments are removed in a page's own bytes: all, or those in whose text a regula
   <!doctype html><!--a-->
   <P>b<!---->d<!-->e (no-eol)
   $ tl remove --comments='^$' --dry-run noted
-  noted:2:32
-  noted:2:40
+  noted:2:33
+  noted:2:41
   $ tl remove -v --comments=^a --diff noted
   --- noted
   +++ noted
@@ -357,8 +357,7 @@ Where two texts would become something else together `</>` stands between them.
   $ printf '<p>\377<!--a-->\351' | tl remove --comments | LC_ALL=C sed -n l
   <p>\377\351$
   $ tl remove --comments='(' noted
-  tl: invalid regular expression (err)
+  tl: invalid regular expression: (: regex parse error at 0..1: unclosed group (err)
   [2]
-  $ tl remove
-  tl: no selector (err)
-  [2]
+  $ tl remove 2>&1 | sed -n 2p
+    <SELECTOR>

@@ -13,11 +13,12 @@ LABELS = (
 
 
 class Option:
-    """An option: `-a`, `--attribute`, `KEY` and what it does; what it lacks is empty."""
+    """An option: `-a`, `--attribute`, `KEY` and what it does; what it lacks is empty. A value that may be left out stands behind `=`, and
+    is no value for completions."""
 
     def __init__(self, line):
-        found = re.fullmatch(r"\s+(?:(-\S), )?(--[a-z-]+)((?: <[A-Z]+>)*)  +(.*)", line)
-        self.short, self.long, value, self.says = (it or "" for it in found.groups())
+        found = re.fullmatch(r"\s+(?:(-\S), )?(--[a-z-]+)(?:\[=<([A-Z]+)>\])?((?: <[A-Z]+>)*)  +(.*)", line)
+        self.short, self.long, self.optional, value, self.says = (it or "" for it in found.groups())
         self.value = re.sub("[<>]", "", value).strip()
 
     def names(self):
@@ -68,6 +69,7 @@ def roff_options(options):
     made = []
     for it in options:
         names = ", ".join(f"\\fB{roff(name)}\\fR" for name in it.names())
+        names += f"[=\\fI{it.optional}\\fR]" if it.optional else ""
         made += [".TP", f"{names} \\fI{it.value}\\fR" if it.value else names, roff(it.says)]
     return made
 
