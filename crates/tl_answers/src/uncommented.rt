@@ -1,7 +1,7 @@
 //! A page without its comments, or some of them.
 ghost use Rattle.regex.specs.Bytes.{matcher_pattern, regex_pattern};
 ghost use Rattle.std.specs.Option.{option_copied};
-ghost use Rattle.std.specs.Prelude.{IfOk, filter, ◌≡◌};
+ghost use Rattle.std.specs.Prelude.{[], IfOk, OnOk, filter, if◌then◌else◌, ◌++◌, ◌∷◌, ◌≡◌};
 ghost use Rattle.tl_answers.specs.Uncommented.{IsUncommented, comments_meant, is_matched, said_at};
 ghost use Rattle.tl_answers.specs.declared.uncommented.CommentRefusal.TheVariants.{OutOfMemory};
 ghost use Rattle.tl_tree.specs.TreeView.{rows_in};
@@ -66,6 +66,16 @@ fn is_matched(_regex: &Regex, matcher: &mut Matcher<'_>, tree: &Tree<'_>, number
     matcher.is_match(said_at(tree, number))
 }
 
+fn push_if(is_it: bool, number: usize, left: &mut Vec<usize>) -> Result<(), AllocError>
+    ensures { OnOk result
+        (left.new.items ≡ left.old.items ++ (if is_it then number ∷ [] else [])) }
+{
+    if is_it {
+        left.push(number)?;
+    }
+    Ok(())
+}
+
 // Those of some comments that a regular expression matches.
 fn matched(
     alloc: Global,
@@ -79,9 +89,8 @@ fn matched(
     let mut matcher = regex.matcher(alloc)?;
     let mut left = Vec::new(alloc);
     for number in numbers {
-        if is_matched(regex, &mut matcher, tree, *number) {
-            left.push(*number)?;
-        }
+        let is_meant = is_matched(regex, &mut matcher, tree, *number);
+        push_if(is_meant, *number, &mut left)?;
     }
     Ok(left)
 }
