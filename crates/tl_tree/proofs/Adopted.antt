@@ -9,6 +9,7 @@ use Rattle.tl_dom_spec.specs.Path.{Frame, Path, Place, document, elements, on_to
 use Rattle.tl_dom_spec.specs.Tags.{Tag}
 use Rattle.tl_tree.proofs.Changed.{map-reverse}
 use Rattle.tl_tree.proofs.Cloned.{done_by}
+use Rattle.tl_tree.proofs.Gone.{path-whole}
 use Rattle.tl_tree.proofs.Readopted.{inside-part, outside-part}
 use Rattle.tl_tree.proofs.Written.{frames-length}
 use Rattle.tl_tree.specs.Inner.Adopted.{AreMade, IsFirst, adopted_path, emptied, filled, frame_at, is_inside, moved, none_cloned, number_of, outer_in, placed, renewed, with_clones, with_outer}
@@ -105,18 +106,18 @@ inside-same : (ancestor : Option Frame) → is_inside_of ancestor ≡ is_inside 
 inside-same None = refl
 inside-same (Some f) = refl
 
-outer-same : (p : FramePath) (own : Listed) (n : ℕ) (found : Option ℕ) → n < length p.frames.items → found ≡ number_of (first (elements (outside_of own.number (path_of p)))) → popped_while (is_inside found) (reverse (take n (frames_of p))) ≡ outer_in own (frame_at p n) (path_of p)
-outer-same p own n found h is =
+outer-same : (p : FramePath) (own : Listed) (n : ℕ) (found : Option ℕ) → p.gaps.marks.items ≡ [] → n < length p.frames.items → found ≡ number_of (first (elements (outside_of own.number (path_of p)))) → popped_while (is_inside found) (reverse (take n (frames_of p))) ≡ outer_in own (frame_at p n) (path_of p)
+outer-same p own n found whole h is =
     let ancestor = first (elements (outside_of own.number (path_of p))) in
     let out = reverse (take n (frames_of p)) in
     ap (λ (k : Option ℕ). popped_while (is_inside k) out) is
     ∙ (ap (λ (test : Frame → Bool). popped_while test out) (sym (inside-same ancestor))
-    ∙ ap (settled_to ancestor) (sym (outside-part p (frame_at p n).number n h refl)))
+    ∙ ap (settled_to ancestor) (sym (outside-part p (frame_at p n).number n whole h refl)))
 
 -- The path of a round
 
-pub path-adopted : (p q t : FramePath) (is_fostering : Bool) (own : Listed) (n m next : ℕ) (clones : Path) (entries : List dom.Entry) (found : Option ℕ) (rs : List Frame) → n < length p.frames.items → m ≡ n + length clones → frames_of q ≡ with_clones n clones (frames_of p) → rs ≡ take m (frames_of q) ++ renewed next own.tag (drop m (frames_of q)) → frames_of t ≡ with_outer is_fostering (popped_while (is_inside found) (reverse (take n rs))) (drop n rs) → found ≡ number_of (first (elements (outside_of own.number (path_of p)))) → path_of t ≡ adopted_path is_fostering own (frame_at p n) (record { frames = clones; entries = entries; next = next }) (outer_in own (frame_at p n) (path_of p)) (path_of p)
-path-adopted p q t is_fostering own n m next clones entries found rs h is-m first second third is-found =
+pub path-adopted : (p q t : FramePath) (is_fostering : Bool) (own : Listed) (n m next : ℕ) (clones : Path) (entries : List dom.Entry) (found : Option ℕ) (rs : List Frame) → p.gaps.marks.items ≡ [] → t.gaps.marks.items ≡ [] → n < length p.frames.items → m ≡ n + length clones → frames_of q ≡ with_clones n clones (frames_of p) → rs ≡ take m (frames_of q) ++ renewed next own.tag (drop m (frames_of q)) → frames_of t ≡ with_outer is_fostering (popped_while (is_inside found) (reverse (take n rs))) (drop n rs) → found ≡ number_of (first (elements (outside_of own.number (path_of p)))) → path_of t ≡ adopted_path is_fostering own (frame_at p n) (record { frames = clones; entries = entries; next = next }) (outer_in own (frame_at p n) (path_of p)) (path_of p)
+path-adopted p q t is_fostering own n m next clones entries found rs whole whole-t h is-m first second third is-found =
     let frames = frames_of p in
     let block = frame_at p n in
     let ys = drop (suc n) frames in
@@ -126,16 +127,16 @@ path-adopted p q t is_fostering own n m next clones entries found rs h is-m firs
     let at : rs ≡ done (with_clones n clones frames) = second ∙ ap done first in
     let outer = outer_in own block (path_of p) in
     let is-outer : popped_while (is_inside found) (reverse (take n rs)) ≡ outer =
-    ap (λ fs. popped_while (is_inside found) (reverse fs)) (ap (take n) at ∙ parts.0) ∙ outer-same p own n found h is-found in
+    ap (λ fs. popped_while (is_inside found) (reverse fs)) (ap (take n) at ∙ parts.0) ∙ outer-same p own n found whole h is-found in
     let back : drop n frames ≡ block ∷ ys = drop-cons frames n document (omega arith) in
     let is-inner : drop n rs ≡ reverse clones ++ renewed next own.tag (block ∷ ys) =
     ap (drop n) at ∙ (parts.1 ∙ ap (λ fs. reverse clones ++ renewed next own.tag fs) back) in
     let place = place_in is_fostering outer in
     let change = moved block.number next in
     let inside : moved_into block.number next (reverse ys) ≡ reverse (map change ys) = map-reverse change ys in
-    ap reverse third
+    path-whole t whole-t ∙ ap reverse third
     ∙ (ap (λ out. reverse (with_outer is_fostering out (drop n rs))) is-outer
     ∙ (ap (λ fs. reverse (with_outer is_fostering outer fs)) is-inner
     ∙ (adopted-seen place outer clones (map change ys) (emptied block) (filled next own.tag block)
     ∙ ap (λ front. front ++ (filled next own.tag block ∷ (outermost_at place (emptied block ∷ clones) ++ outer)))
-    (sym (ap (moved_into block.number next) (inside-part p block.number n h refl) ∙ inside)))))
+    (sym (ap (moved_into block.number next) (inside-part p block.number n whole h refl) ∙ inside)))))

@@ -163,7 +163,8 @@ some-tag s (f ∷ frames) some within =
 -- a builder of a new path
 pub known-new : (p : FramePath) (list : ActiveList) (number active doctype : ℕ) → IsTallied p.store list → number ≡ 0 → active ≡ 0 → p.next ≡ 1 → doctype < length p.store.doctypes.items → AreKnown (sizes_of p.store) p.next number active None 0 (record { start = 0; len = 0 }) doctype p.store list
 known-new p list number active doctype tallied none is one within =
-    let some = some-tag p.store p.frames.items p.some p.within in
+    let least = p.some in
+    let some = some-tag p.store p.frames.items (omega arith) p.within in
     record {
       numbered = omega arith;
       listed = omega arith;

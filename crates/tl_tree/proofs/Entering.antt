@@ -8,13 +8,14 @@ use Rattle.std.specs.Option.{option_map}
 use Rattle.tl_dom_spec.specs.Tags as tags
 use Rattle.tl_tree.proofs.Grown.{number-at-grown, tag-at-grown}
 use Rattle.tl_tree.proofs.Listed.{map-same, map-take}
+use Rattle.tl_tree.proofs.Gone.{path-by}
 use Rattle.tl_tree.proofs.Numbered.{found-any}
 use Rattle.tl_tree.proofs.Numbers.{either, either-front}
 use Rattle.tl_tree.proofs.Written.{parts-of}
 use Rattle.tl_tree.specs.Inner.Entered.{entered, entered_of, role_at}
 use Rattle.tl_tree.specs.Inner.Framed.{are_distinct, frame_is_within, numbers}
 use Rattle.tl_tree.specs.Inner.Framed as framed
-use Rattle.tl_tree.specs.Inner.Frames.{frame_of, frames_of, is_frame, path_of}
+use Rattle.tl_tree.specs.Inner.Frames.{frame_of, frames_of, is_frame, path_of, seen}
 use Rattle.tl_tree.specs.Inner.NameNumbers.{number_at}
 use Rattle.tl_tree.specs.Inner.Roles.{is_numbered, role_of}
 use Rattle.tl_tree.specs.Inner.Store.{Grows, tag_at}
@@ -230,11 +231,12 @@ number-read frames i number f is h same =
     ∙ (ap (option_map (λ (it : Frame). it.number)) (slice_get_read frames (length frames) i f refl h is) ∙ ap Some same)
 
 -- a path of the same frames, over the same store
-pub same-path : (p q : FramePath) → q.frames.items ≡ p.frames.items → q.store ≡ p.store → path_of q ≡ path_of p
+pub same-path : (p q : FramePath) → q.frames.items ≡ p.frames.items → q.store ≡ p.store → q.gaps ≡ p.gaps → path_of q ≡ path_of p
 unfolding frames_of
-same-path p q frames store =
-    ap (λ (s : Store). reverse (map (frame_of s) q.frames.items)) store
-    ∙ ap (λ (xs : List Frame). reverse (map (frame_of p.store) xs)) frames
+same-path p q frames store same =
+    path-by p q same
+    ∙ (ap (λ (s : Store). seen p.gaps.marks.items (map (frame_of s) q.frames.items)) store
+    ∙ ap (λ (xs : List Frame). seen p.gaps.marks.items (map (frame_of p.store) xs)) frames)
 
 -- What a frame is to searches
 

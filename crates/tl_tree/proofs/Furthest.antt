@@ -5,6 +5,7 @@ use Rattle.std.proofs.lemmas.List.{get_or_read, take_all}
 use Rattle.tl_dom_spec.specs.Adoption.{first, outermost}
 use Rattle.tl_dom_spec.specs.Path as dom
 use Rattle.tl_dom_spec.specs.Tags.{Tag}
+use Rattle.tl_tree.proofs.Gone.{elements-seen}
 use Rattle.tl_tree.proofs.Sought.{reverse-take}
 use Rattle.tl_tree.proofs.Written.{frame-at, frames-length}
 use Rattle.tl_tree.specs.Inner.Adopted.{frame_at, frame_found, furthest, innermost_number, is_element_of, number_of}
@@ -39,7 +40,8 @@ elements-open p n h opened =
 pub elements-all : (p : FramePath) (n : ℕ) → n ≡ length p.frames.items → dom.elements (path_of p) ≡ around p n
 elements-all p n e =
     let many = frames-length p in
-    ap (λ frames. dom.elements (reverse frames)) (sym (take_all n (frames_of p) (omega arith)))
+    elements-seen p
+    ∙ ap (λ frames. dom.elements (reverse frames)) (sym (take_all n (frames_of p) (omega arith)))
 
 -- The furthest block
 

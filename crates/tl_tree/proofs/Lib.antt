@@ -18,6 +18,8 @@ pub mod Cuts
 pub mod KeptPlaces
 pub mod Asks
 pub mod Changed
+pub mod Gone
+pub mod Marks
 pub mod Numbered
 pub mod Entering
 pub mod Written
@@ -63,6 +65,7 @@ pub mod Numbers
 pub mod Readopted
 pub mod Outer
 pub mod Turned
+pub mod Over
 pub mod Placed
 pub mod Cloned
 pub mod Dispatched
@@ -72,7 +75,9 @@ pub mod PendingBytes
 pub mod RunBytes
 pub mod RunTexts
 pub mod Adopted
-pub mod AdoptedNear
+pub mod AdoptedOver
+pub mod Ancestor
+pub mod There
 pub mod Rounds
 pub mod Merged
 pub mod AtRests

@@ -6,8 +6,10 @@ use Rattle.std.proofs.lemmas.Option.{same_Some, slice_get_within}
 use Rattle.std.specs.List.{list_all, list_any}
 use Rattle.tl_dom_spec.specs.Path as dom
 use Rattle.tl_tree.proofs.Changed.{map-reverse}
+use Rattle.tl_tree.proofs.Gone.{path-by, there-map}
 use Rattle.tl_tree.specs.Inner.Framed.{are_distinct, is_before, is_numbered, numbers}
-use Rattle.tl_tree.specs.Inner.Frames.{changed, frame_of, frames_of, path_of}
+use Rattle.tl_tree.specs.Inner.Frames.{changed, frame_of, frames_of, path_of, seen}
+use Rattle.tl_tree.specs.Inner.Gone.{there}
 use Rattle.tl_tree.specs.declared.frame.Frame.{Frame}
 use Rattle.tl_tree.specs.declared.path.FramePath.{FramePath}
 use Rattle.tl_tree.specs.declared.store.Store.{Store}
@@ -38,6 +40,15 @@ found-any (g ∷ frames) (suc n) k e m h =
     let p = or_parts (is_numbered m g) (list_any (is_numbered m) frames) h in
     found-any frames n k e m p.1
 
+-- a change of all
+seen-mapped : (p : FramePath) (k : ℕ) (change : dom.Frame → dom.Frame) → seen p.gaps.marks.items (map (λ (f : dom.Frame). cond (nat_eq f.number k) (change f) f) (map (frame_of p.store) p.frames.items)) ≡ dom.at_number k change (path_of p)
+unfolding frames_of
+seen-mapped p k change =
+    let all = λ (f : dom.Frame). cond (nat_eq f.number k) (change f) f in
+    let marks = p.gaps.marks.items in
+    let frames = map (frame_of p.store) p.frames.items in
+    ap reverse (there-map all marks frames) ∙ sym (map-reverse all (there marks frames))
+
 changed-map : (s : Store) (k n : ℕ) (change : dom.Frame → dom.Frame) (frames : List Frame) → slice_get (numbers frames) n ≡ Some k → IsTrue (are_distinct frames) → map (λ (g : dom.Frame). cond (nat_eq g.number k) (change g) g) (map (frame_of s) frames) ≡ changed n change (map (frame_of s) frames)
 changed-map s k n change [] e h = absurd (cc)
 changed-map s k zero change (g ∷ frames) e h =
@@ -54,17 +65,22 @@ changed-map s k (suc n) change (g ∷ frames) e h =
     ∙ ap (λ rest. frame_of s g ∷ rest) (changed-map s k n change frames e p.1)
 
 -- the frame at a place is the one of its number
-pub changed-number : (p : FramePath) (k n : ℕ) (change : dom.Frame → dom.Frame) → slice_get (numbers p.frames.items) n ≡ Some k → reverse (changed n change (frames_of p)) ≡ dom.at_number k change (path_of p)
+pub changed-number : (p : FramePath) (k n : ℕ) (change : dom.Frame → dom.Frame) → slice_get (numbers p.frames.items) n ≡ Some k → seen p.gaps.marks.items (changed n change (frames_of p)) ≡ dom.at_number k change (path_of p)
 unfolding frames_of
 changed-number p k n change e =
-    ap reverse (sym (changed-map p.store k n change p.frames.items e p.distinct))
-    ∙ sym (map-reverse (λ (g : dom.Frame). cond (nat_eq g.number k) (change g) g) (map (frame_of p.store) p.frames.items))
+    ap (seen p.gaps.marks.items) (sym (changed-map p.store k n change p.frames.items e p.distinct))
+    ∙ seen-mapped p k change
+
+-- where another path has the same gaps
+pub number-changed : (p q : FramePath) (k n : ℕ) (change : dom.Frame → dom.Frame) → q.gaps ≡ p.gaps → slice_get (numbers p.frames.items) n ≡ Some k → frames_of q ≡ changed n change (frames_of p) → path_of q ≡ dom.at_number k change (path_of p)
+number-changed p q k n change same e at =
+    path-by p q same ∙ (ap (seen p.gaps.marks.items) at ∙ changed-number p k n change e)
 
 pub absent-number : (p : FramePath) (k : ℕ) (change : dom.Frame → dom.Frame) → list_any (is_numbered k) p.frames.items ≡ false → path_of p ≡ dom.at_number k change (path_of p)
 unfolding frames_of
 absent-number p k change h =
-    sym (map-reverse (λ (f : dom.Frame). cond (nat_eq f.number k) (change f) f) (map (frame_of p.store) p.frames.items)
-    ∙ ap reverse (absent-map p.store k change p.frames.items h))
+    ap (seen p.gaps.marks.items) (sym (absent-map p.store k change p.frames.items h))
+    ∙ seen-mapped p k change
 
 pub found-within : (frames : List Frame) (n k : ℕ) → slice_get (numbers frames) n ≡ Some k → n < length frames
 found-within frames n k e =

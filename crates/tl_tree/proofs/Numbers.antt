@@ -7,6 +7,7 @@ use Rattle.std.proofs.lemmas.List.Folds.{list_all-append, list_any-append}
 use Rattle.std.specs.List.{list_all, list_any}
 use Rattle.tl_dom_spec.specs.Path as dom
 use Rattle.tl_tree.proofs.Changed.{map-reverse}
+use Rattle.tl_tree.proofs.Gone.{path-whole}
 use Rattle.tl_tree.proofs.Settled.{is_settled, settled-one}
 use Rattle.tl_tree.specs.Inner.Framed.{are_distinct, is_before, is_numbered, numbers}
 use Rattle.tl_tree.specs.Inner.Frames.{frame_of, frames_of, path_of}
@@ -66,10 +67,11 @@ any-numbers : (test : ℕ → Bool) (frames : List Frame) → list_any (λ (f : 
 any-numbers test [] = refl
 any-numbers test (f ∷ frames) = ap (λ b. test f.number || b) (any-numbers test frames)
 
-path-numbers : (p : FramePath) → numbers_in (path_of p) ≡ reverse (numbers p.frames.items)
+path-numbers : (p : FramePath) → p.gaps.marks.items ≡ [] → numbers_in (path_of p) ≡ reverse (numbers p.frames.items)
 unfolding frames_of
-path-numbers p =
-    map-reverse (λ (f : dom.Frame). f.number) (map (frame_of p.store) p.frames.items)
+path-numbers p whole =
+    ap numbers_in (path-whole p whole)
+    ∙ map-reverse (λ (f : dom.Frame). f.number) (map (frame_of p.store) p.frames.items)
     ∙ ap reverse (mapped p.store p.frames.items)
   where
     mapped : (s : Store) (frames : List Frame) → numbers_in (map (frame_of s) frames) ≡ numbers frames
@@ -77,17 +79,17 @@ path-numbers p =
     mapped s (f ∷ frames) = ap (λ rest. f.number ∷ rest) (mapped s frames)
 
 -- a number that none has is not that of one that is left
-pub none-left : (test : ℕ → Bool) (passes : dom.Frame → Bool) (p q : FramePath) → path_of q ≡ dom.popped_while passes (path_of p) → list_any (λ (f : Frame). test f.number) p.frames.items ≡ false → list_any (λ (f : Frame). test f.number) q.frames.items ≡ false
-none-left test passes p q e h =
+pub none-left : (test : ℕ → Bool) (passes : dom.Frame → Bool) (p q : FramePath) → p.gaps.marks.items ≡ [] → q.gaps.marks.items ≡ [] → path_of q ≡ dom.popped_while passes (path_of p) → list_any (λ (f : Frame). test f.number) p.frames.items ≡ false → list_any (λ (f : Frame). test f.number) q.frames.items ≡ false
+none-left test passes p q whole left-whole e h =
     let kept = numbers-kept passes (path_of p) (path_of p) in
     let left : list_any test (numbers_in (path_of q)) ≡ false =
     ap (λ path. list_any test (numbers_in path)) e
     ∙ (ap (list_any test) kept.1
     ∙ none-drop test kept.0 (numbers_in (path_of p))
-    (ap (list_any test) (path-numbers p) ∙ none-reverse test (numbers p.frames.items) (sym (any-numbers test p.frames.items) ∙ h))) in
+    (ap (list_any test) (path-numbers p whole) ∙ none-reverse test (numbers p.frames.items) (sym (any-numbers test p.frames.items) ∙ h))) in
     any-numbers test q.frames.items
     ∙ (ap (list_any test) (sym (reverse-reverse (numbers q.frames.items)))
-    ∙ none-reverse test (reverse (numbers q.frames.items)) (ap (list_any test) (sym (path-numbers q)) ∙ left))
+    ∙ none-reverse test (reverse (numbers q.frames.items)) (ap (list_any test) (sym (path-numbers q left-whole)) ∙ left))
 
 -- Numbers that differ
 
@@ -117,13 +119,13 @@ distinct-apart (x ∷ xs) ys h =
     or_from (shares ys x) (list_any (shares ys) xs) (or_parts (list_any (is_numbered x.number) xs) (shares ys x) none).1 (distinct-apart xs ys p.1)
 
 -- frames that are put where the others were settled
-pub distinct-settled : (passes : dom.Frame → Bool) (n : ℕ) (frames : List Frame) (p q : FramePath) → IsTrue (are_distinct frames) → p.frames.items ≡ take n frames → path_of q ≡ dom.popped_while passes (path_of p) → IsTrue (are_distinct (q.frames.items ++ drop n frames))
-distinct-settled passes n frames p q h front settled =
+pub distinct-settled : (passes : dom.Frame → Bool) (n : ℕ) (frames : List Frame) (p q : FramePath) → p.gaps.marks.items ≡ [] → q.gaps.marks.items ≡ [] → IsTrue (are_distinct frames) → p.frames.items ≡ take n frames → path_of q ≡ dom.popped_while passes (path_of p) → IsTrue (are_distinct (q.frames.items ++ drop n frames))
+distinct-settled passes n frames p q whole left-whole h front settled =
     let parted : IsTrue (are_distinct (take n frames ++ drop n frames)) = subst (λ (all : List Frame). IsTrue (are_distinct all)) (sym (take-append-drop n frames)) h in
     let inner = drop n frames in
     let apart : list_any (shares inner) p.frames.items ≡ false = ap (list_any (shares inner)) front ∙ distinct-apart (take n frames) inner parted in
     distinct-append q.frames.items inner q.distinct (distinct-back (take n frames) inner parted)
-    (none-left (λ k. list_any (is_numbered k) inner) passes p q settled apart)
+    (none-left (λ k. list_any (is_numbered k) inner) passes p q whole left-whole settled apart)
 
 -- A frame of a new number
 

@@ -3,6 +3,7 @@ use Rattle.std.proofs.Common.{ap, sym, subst, ◌∙◌, ◌≡◌, ◌++◌, �
 use Rattle.std.proofs.lemmas.List.{drop-map, map-append, reverse-reverse}
 use Rattle.std.specs.List.{list_all}
 use Rattle.tl_dom_spec.specs.Path as dom
+use Rattle.tl_tree.proofs.Gone.{path-whole}
 use Rattle.tl_tree.proofs.Listed.{all-drop, all-weaker, map-same, map-take}
 use Rattle.tl_tree.proofs.Written.{frame-grown, frame-more, frames-length}
 use Rattle.tl_tree.specs.Inner.Adopted.{placed, with_outer}
@@ -21,12 +22,13 @@ aside-within p m q n aside same g is =
     (all-weaker (is_frame p) (is_frame q) (frame-more p.store q.store grows) (drop n p.frames.items) (all-drop (is_frame p) n p.frames.items p.within))
 
 -- the path that is left
-path-front : (p m : FramePath) (n : ℕ) → m.frames.items ≡ take n p.frames.items → m.store ≡ p.store → path_of m ≡ reverse (take n (frames_of p))
+path-front : (p m : FramePath) (n : ℕ) → m.gaps.marks.items ≡ [] → m.frames.items ≡ take n p.frames.items → m.store ≡ p.store → path_of m ≡ reverse (take n (frames_of p))
 unfolding frames_of
-path-front p m n front same =
-    ap (λ (s : Store). reverse (map (frame_of s) m.frames.items)) same
+path-front p m n whole front same =
+    path-whole m whole
+    ∙ (ap (λ (s : Store). reverse (map (frame_of s) m.frames.items)) same
     ∙ (ap (λ frames. reverse (map (frame_of p.store) frames)) front
-    ∙ ap reverse (map-take (frame_of p.store) n p.frames.items))
+    ∙ ap reverse (map-take (frame_of p.store) n p.frames.items)))
 
 -- with those that were set aside
 frames-back : (p q r : FramePath) (n : ℕ) (aside : List Frame) → Grows p.store q.store → aside ≡ drop n p.frames.items → r.frames.items ≡ q.frames.items ++ aside → r.store ≡ q.store → frames_of r ≡ frames_of q ++ drop n (frames_of p)
@@ -44,16 +46,16 @@ changed-seam change [] [] = refl
 changed-seam change [] (y ∷ ys) = refl
 changed-seam change (x ∷ xs) ys = ap (λ rest. x ∷ rest) (changed-seam change xs ys)
 
-pub settled-outside : (p m q r t : FramePath) (n first : ℕ) (aside : List Frame) (passes : dom.Frame → Bool) (is_fostering : Bool) (target : Place) → m.frames.items ≡ take n p.frames.items → m.store ≡ p.store → aside ≡ drop n p.frames.items → path_of q ≡ dom.popped_while passes (path_of m) → Grows m.store q.store → place_of target ≡ dom.place_in is_fostering (path_of q) → first ≡ length q.frames.items → r.frames.items ≡ q.frames.items ++ aside → r.store ≡ q.store → frames_of t ≡ changed first (placed (place_of target)) (frames_of r) → frames_of t ≡ with_outer is_fostering (dom.popped_while passes (reverse (take n (frames_of p)))) (drop n (frames_of p))
-settled-outside p m q r t n first aside passes is_fostering target front same is settled g at_place at_first at kept placed_at =
+pub settled-outside : (p m q r t : FramePath) (n first : ℕ) (aside : List Frame) (passes : dom.Frame → Bool) (is_fostering : Bool) (target : Place) → m.gaps.marks.items ≡ [] → q.gaps.marks.items ≡ [] → m.frames.items ≡ take n p.frames.items → m.store ≡ p.store → aside ≡ drop n p.frames.items → path_of q ≡ dom.popped_while passes (path_of m) → Grows m.store q.store → place_of target ≡ dom.place_in is_fostering (path_of q) → first ≡ length q.frames.items → r.frames.items ≡ q.frames.items ++ aside → r.store ≡ q.store → frames_of t ≡ changed first (placed (place_of target)) (frames_of r) → frames_of t ≡ with_outer is_fostering (dom.popped_while passes (reverse (take n (frames_of p)))) (drop n (frames_of p))
+settled-outside p m q r t n first aside passes is_fostering target whole left-whole front same is settled g at_place at_first at kept placed_at =
     let grows = subst (λ (s : Store). Grows s q.store) same g in
     let inner = drop n (frames_of p) in
     let change = placed (place_of target) in
-    let outer : path_of q ≡ dom.popped_while passes (reverse (take n (frames_of p))) = settled ∙ ap (dom.popped_while passes) (path-front p m n front same) in
+    let outer : path_of q ≡ dom.popped_while passes (reverse (take n (frames_of p))) = settled ∙ ap (dom.popped_while passes) (path-front p m n whole front same) in
     placed_at
     ∙ (ap (λ (i : ℕ). changed i change (frames_of r)) (at_first ∙ sym (frames-length q))
     ∙ (ap (changed (length (frames_of q)) change) (frames-back p q r n aside grows is at kept)
     ∙ (changed-seam change (frames_of q) inner
     ∙ (ap (λ (place : dom.Place). frames_of q ++ dom.on_top (placed place) inner) at_place
-    ∙ (ap (λ frames. frames ++ dom.on_top (placed (dom.place_in is_fostering (path_of q))) inner) (sym (reverse-reverse (frames_of q)))
+    ∙ (ap (λ frames. frames ++ dom.on_top (placed (dom.place_in is_fostering (path_of q))) inner) (sym (ap reverse (path-whole q left-whole) ∙ reverse-reverse (frames_of q)))
     ∙ ap (λ path. with_outer is_fostering path inner) outer)))))

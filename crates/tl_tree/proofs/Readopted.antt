@@ -9,6 +9,7 @@ use Rattle.tl_dom_spec.specs.Adoption.{inside_of, outside_of}
 use Rattle.tl_dom_spec.specs.Path as dom
 use Rattle.tl_dom_spec.specs.Tags as tags
 use Rattle.tl_tree.proofs.Actives.{parted}
+use Rattle.tl_tree.proofs.Gone.{path-whole}
 use Rattle.tl_tree.proofs.Grown.{grows_refl, nodes-none}
 use Rattle.tl_tree.proofs.Listed.{map-take}
 use Rattle.tl_tree.proofs.Numbers.{distinct-back, none-reverse}
@@ -24,18 +25,19 @@ use Rattle.tl_tree.specs.declared.store.Store.{Store}
 
 -- Parts of the path
 
-path-parted : (p : FramePath) (n : ℕ) → n < length p.frames.items → path_of p ≡ reverse (drop (suc n) (frames_of p)) ++ (frame_at p n ∷ reverse (take n (frames_of p)))
-path-parted p n h =
+path-parted : (p : FramePath) (n : ℕ) → p.gaps.marks.items ≡ [] → n < length p.frames.items → path_of p ≡ reverse (drop (suc n) (frames_of p)) ++ (frame_at p n ∷ reverse (take n (frames_of p)))
+path-parted p n whole h =
     let all = frames_of p in
     let many = frames-length p in
     let own = frame_at p n in
     let inner = drop (suc n) all in
-    ap reverse (parted all n dom.document (omega arith))
+    path-whole p whole
+    ∙ ap reverse (parted all n dom.document (omega arith))
     ∙ (reverse-append (take n all) (own ∷ inner)
     ∙ (ap (λ xs. xs ++ reverse (take n all)) (reverse-append (own ∷ []) inner)
     ∙ append_assoc (reverse inner) (own ∷ []) (reverse (take n all))))
 
-inside-at : (k : ℕ) (xs ys : dom.Path) (f : dom.Frame) → list_any (dom.has_number k) xs ≡ false → f.number ≡ k → inside_of k (xs ++ f ∷ ys) ≡ xs
+pub inside-at : (k : ℕ) (xs ys : dom.Path) (f : dom.Frame) → list_any (dom.has_number k) xs ≡ false → f.number ≡ k → inside_of k (xs ++ f ∷ ys) ≡ xs
 inside-at k [] ys f none is =
     cond-true (nat_eq f.number k) [] (f ∷ inside_of k ys) (eq-eqb f.number k is)
 inside-at k (x ∷ xs) ys f none is =
@@ -43,7 +45,7 @@ inside-at k (x ∷ xs) ys f none is =
     cond-false (nat_eq x.number k) [] (x ∷ inside_of k (xs ++ f ∷ ys)) p.0
     ∙ ap (λ rest. x ∷ rest) (inside-at k xs ys f p.1 is)
 
-outside-at : (k : ℕ) (xs ys : dom.Path) (f : dom.Frame) → list_any (dom.has_number k) xs ≡ false → f.number ≡ k → outside_of k (xs ++ f ∷ ys) ≡ ys
+pub outside-at : (k : ℕ) (xs ys : dom.Path) (f : dom.Frame) → list_any (dom.has_number k) xs ≡ false → f.number ≡ k → outside_of k (xs ++ f ∷ ys) ≡ ys
 outside-at k [] ys f none is =
     cond-true (nat_eq f.number k) ys (outside_of k ys) (eq-eqb f.number k is)
 outside-at k (x ∷ xs) ys f none is =
@@ -68,7 +70,7 @@ number-at s (g ∷ frames) zero f h = refl
 number-at s (g ∷ frames) (suc n) f h = number-at s frames n f (omega arith)
 
 -- no other one has the number of a frame
-none-inside : (p : FramePath) (k n : ℕ) (f : Frame) → n < length p.frames.items → (frame_at p n).number ≡ k → list_any (dom.has_number k) (reverse (drop (suc n) (frames_of p))) ≡ false
+pub none-inside : (p : FramePath) (k n : ℕ) (f : Frame) → n < length p.frames.items → (frame_at p n).number ≡ k → list_any (dom.has_number k) (reverse (drop (suc n) (frames_of p))) ≡ false
 unfolding frames_of
 none-inside p k n f h is =
     let xs = p.frames.items in
@@ -81,23 +83,24 @@ none-inside p k n f h is =
     (ap (list_any (dom.has_number k)) (drop-map (frame_of p.store) (suc n) xs)
     ∙ (seen-any p.store k rest ∙ (ap (λ (m : ℕ). list_any (is_numbered m) rest) (sym same) ∙ none)))
 
-some-frame : (p : FramePath) → Frame
+pub some-frame : (p : FramePath) → Frame
 some-frame p = get_or p.frames.items 0 (record { number = 0; tag = 0; children = 0; late = 0; waiting = 0; place = Here; is_open = false })
 
-pub inside-part : (p : FramePath) (k n : ℕ) → n < length p.frames.items → (frame_at p n).number ≡ k → inside_of k (path_of p) ≡ reverse (drop (suc n) (frames_of p))
-inside-part p k n h is =
-    ap (inside_of k) (path-parted p n h)
+pub inside-part : (p : FramePath) (k n : ℕ) → p.gaps.marks.items ≡ [] → n < length p.frames.items → (frame_at p n).number ≡ k → inside_of k (path_of p) ≡ reverse (drop (suc n) (frames_of p))
+inside-part p k n whole h is =
+    ap (inside_of k) (path-parted p n whole h)
     ∙ inside-at k (reverse (drop (suc n) (frames_of p))) (reverse (take n (frames_of p))) (frame_at p n) (none-inside p k n (some-frame p) h is) is
 
-pub outside-part : (p : FramePath) (k n : ℕ) → n < length p.frames.items → (frame_at p n).number ≡ k → outside_of k (path_of p) ≡ reverse (take n (frames_of p))
-outside-part p k n h is =
-    ap (outside_of k) (path-parted p n h)
+pub outside-part : (p : FramePath) (k n : ℕ) → p.gaps.marks.items ≡ [] → n < length p.frames.items → (frame_at p n).number ≡ k → outside_of k (path_of p) ≡ reverse (take n (frames_of p))
+outside-part p k n whole h is =
+    ap (outside_of k) (path-parted p n whole h)
     ∙ outside-at k (reverse (drop (suc n) (frames_of p))) (reverse (take n (frames_of p))) (frame_at p n) (none-inside p k n (some-frame p) h is) is
 
-pub outside-none : (p : FramePath) (k : ℕ) → list_any (is_numbered k) p.frames.items ≡ false → outside_of k (path_of p) ≡ []
+pub outside-none : (p : FramePath) (k : ℕ) → p.gaps.marks.items ≡ [] → list_any (is_numbered k) p.frames.items ≡ false → outside_of k (path_of p) ≡ []
 unfolding frames_of
-outside-none p k h =
-    outside-absent k (path_of p) (none-reverse (dom.has_number k) (map (frame_of p.store) p.frames.items) (seen-any p.store k p.frames.items ∙ h))
+outside-none p k whole h =
+    ap (outside_of k) (path-whole p whole)
+    ∙ outside-absent k (reverse (frames_of p)) (none-reverse (dom.has_number k) (map (frame_of p.store) p.frames.items) (seen-any p.store k p.frames.items ∙ h))
 
 pub number-found : (p : FramePath) (n k : ℕ) → slice_get (numbers p.frames.items) n ≡ Some k → (frame_at p n).number ≡ k
 unfolding frames_of

@@ -10,6 +10,7 @@ use Rattle.tl_dom_spec.specs.Path as paths
 use Rattle.tl_dom_spec.specs.Reset as reset
 use Rattle.tl_tree.proofs.Changed.{reverse-last}
 use Rattle.tl_tree.proofs.Furthest.{elements-closed, elements-open}
+use Rattle.tl_tree.proofs.Gone.{elements-seen}
 use Rattle.tl_tree.proofs.Listed.{map-take}
 use Rattle.tl_tree.proofs.Sought.{reverse-take}
 use Rattle.tl_tree.proofs.Written.{frame-at, frames-length}
@@ -99,7 +100,8 @@ pub mode-all : (b : Builder) (n : ℕ) → n ≡ length b.path.frames.items → 
 unfolding mode_from builder_of
 mode-all b n e =
     let many = frames-length b.path in
-    ap (λ frames. reset.mode_of (builder_of b) (paths.elements (reverse frames))) (sym (take_all n (frames_of b.path) (omega arith)))
+    ap (reset.mode_of (builder_of b)) (elements-seen b.path)
+    ∙ ap (λ frames. reset.mode_of (builder_of b) (paths.elements (reverse frames))) (sym (take_all n (frames_of b.path) (omega arith)))
 
 pub mode-none : (b : Builder) → mode_from b 0 ≡ dom.in_body
 unfolding mode_from

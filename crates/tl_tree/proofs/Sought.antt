@@ -4,6 +4,7 @@ use Rattle.std.proofs.Math.Seq.{take-suc}
 use Rattle.std.proofs.lemmas.Bool.{false≢true}
 use Rattle.std.proofs.lemmas.List.{reverse-append, take_all}
 use Rattle.tl_dom_spec.specs.Path as dom
+use Rattle.tl_tree.proofs.Gone.{elements-seen}
 use Rattle.tl_tree.proofs.Written.{frame-at, frames-length}
 use Rattle.tl_tree.specs.Inner.Frames.{frame_of, frames_of, path_of, sought}
 use Rattle.tl_tree.specs.declared.frame.Frame.{Frame}
@@ -24,7 +25,8 @@ pub sought-all : (test bounds : dom.Frame → Bool) (p : FramePath) (n : ℕ) �
 unfolding sought
 sought-all test bounds p n e =
     let many = frames-length p in
-    ap (λ frames. dom.within test bounds (dom.elements (reverse frames))) (sym (take_all n (frames_of p) (omega arith)))
+    ap (dom.within test bounds) (elements-seen p)
+    ∙ ap (λ frames. dom.within test bounds (dom.elements (reverse frames))) (sym (take_all n (frames_of p) (omega arith)))
 
 pub sought-none : (test bounds : dom.Frame → Bool) (p : FramePath) → sought test bounds p 0 ≡ false
 unfolding sought

@@ -7,6 +7,7 @@ use Rattle.std.proofs.lemmas.List.{get_or-map, take_all}
 use Rattle.tl_dom_spec.specs.Dispatcher.{by_mode, found_in, the_frame}
 use Rattle.tl_dom_spec.specs.Path as dom
 use Rattle.tl_dom_spec.specs.Tags.{is_html}
+use Rattle.tl_tree.proofs.Gone.{elements-seen}
 use Rattle.tl_tree.proofs.Sought.{reverse-take}
 use Rattle.tl_tree.proofs.Written.{frame-at, frames-length}
 use Rattle.tl_tree.specs.Inner.Found.{framed, stack_to}
@@ -23,7 +24,8 @@ pub stacked-all : (p : FramePath) (n : ℕ) → n ≡ length p.frames.items → 
 unfolding stack_to
 stacked-all p n e =
     let many = frames-length p in
-    ap (λ frames. dom.elements (reverse frames)) (sym (take_all n (frames_of p) (omega arith)))
+    elements-seen p
+    ∙ ap (λ frames. dom.elements (reverse frames)) (sym (take_all n (frames_of p) (omega arith)))
 
 pub stacked-none : (p : FramePath) → stack_to p 0 ≡ []
 unfolding stack_to

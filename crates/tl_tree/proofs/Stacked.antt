@@ -1,22 +1,21 @@
 -- What single rules ask of a path of frames, and what they change in it.
 use Rattle.std.proofs.Common.{ap, arith, subst, sym, ◌∙◌, ◌≡◌, ◌+◌, ◌≤◌, ◌<◌, ◌++◌, ◌∷◌, [], Bool, List, None, Some, codes, cond, drop, false, get_or, length, map, nat_eq, refl, reverse, set, slice_get, suc, take, true, zero, ℕ}
-use Rattle.std.proofs.lemmas.List.{append-nil, drop_all, drop_more, get_or-map, get_or_default, reverse-append}
-use Rattle.std.proofs.lemmas.List.Elements.{filter-append}
+use Rattle.std.proofs.lemmas.List.{drop_all, drop_more, get_or-map, get_or_default, reverse-append}
 use Rattle.tl_dom_spec.specs.Body.{body_number, from_html}
 use Rattle.tl_dom_spec.specs.Builder.{is_only, with_more}
 use Rattle.tl_dom_spec.specs.Path as dom
 use Rattle.tl_dom_spec.specs.Tags.{Attribute, Tag, is_any}
-use Rattle.tl_tree.proofs.Changed.{reverse-last}
+use Rattle.tl_tree.proofs.Gone.{elements-seen, filter-reverse, path-by}
 use Rattle.tl_tree.proofs.Grown.{grows_refl, tag-at-grown}
 use Rattle.tl_tree.proofs.KnownNames.{same-number}
 use Rattle.tl_tree.proofs.Listed.{begins-longer}
 use Rattle.tl_tree.proofs.Numbered.{changed-number}
-use Rattle.tl_tree.proofs.Popped.{path-top}
-use Rattle.tl_tree.proofs.Written.{frame-at, frame-written, frames-grown, frames-length, path-length}
+use Rattle.tl_tree.proofs.Popped.{path-alone, path-top, some-around}
+use Rattle.tl_tree.proofs.Written.{frame-at, frame-written, frames-grown, frames-length}
 use Rattle.tl_tree.specs.Inner.Adopted.{frame_at}
 use Rattle.tl_tree.specs.Inner.Entered.{role_at}
 use Rattle.tl_tree.specs.Inner.Framed.{numbers}
-use Rattle.tl_tree.specs.Inner.Frames.{changed, frame_of, frames_of, path_of}
+use Rattle.tl_tree.specs.Inner.Frames.{around, changed, frame_of, frames_of, path_of, seen}
 use Rattle.tl_tree.specs.Inner.NameNumbers.{number_at}
 use Rattle.tl_tree.specs.Inner.Roles.{role_of}
 use Rattle.tl_tree.specs.Inner.Stack.{inner, opened_from, retagged, retagged_by, tag_in}
@@ -44,7 +43,7 @@ tagged-by : (p : FramePath) (k n : ℕ) (f : Frame) → slice_get (numbers p.fra
 tagged-by p k n f found is h change =
     let many = frames-length p in
     sym (changed-number p k n (retagged_by change) found)
-    ∙ (ap reverse (changed-alike n (retagged_by change) (retagged (change (tag_at p.store f.tag))) (frames_of p) (frame_of p.store f) (omega arith) (frame-at p n f is) refl)
+    ∙ (ap (seen p.gaps.marks.items) (changed-alike n (retagged_by change) (retagged (change (tag_at p.store f.tag))) (frames_of p) (frame_of p.store f) (omega arith) (frame-at p n f is) refl)
     ∙ changed-number p k n (retagged (change (tag_at p.store f.tag))) found)
 
 -- the tag of the frame at a place
@@ -71,13 +70,15 @@ merged-role p m i f tag more g kept is h own within stands =
     ∙ (ap (role_of (tag_at m.store f.tag)) (same-number m.store tag f.tag within (omega arith) (ap (λ (t : Tag). t.name) like))
     ∙ ap (role_at m.store) (sym there))
 
-pub merged-path : (p m q : FramePath) (k n : ℕ) (f : Frame) (tag : ℕ) (more : List Attribute) → Grows p.store m.store → m.frames.items ≡ p.frames.items → slice_get (numbers p.frames.items) n ≡ Some k → f ≡ get_or p.frames.items n f → n < length p.frames.items → tag_at m.store tag ≡ with_more more (tag_at p.store f.tag) → frames_of q ≡ changed n (retagged (tag_at m.store tag)) (frames_of m) → path_of q ≡ dom.at_number k (retagged_by (with_more more)) (path_of p)
-merged-path p m q k n f tag more g kept found is h stands written =
-    ap reverse written
-    ∙ (ap (λ (own : Tag). reverse (changed n (retagged own) (frames_of m))) stands
-    ∙ (ap (λ frames. reverse (changed n (retagged (with_more more (tag_at p.store f.tag))) frames)) (frames-grown p m g kept)
+pub merged-path : (p m q : FramePath) (k n : ℕ) (f : Frame) (tag : ℕ) (more : List Attribute) → Grows p.store m.store → m.frames.items ≡ p.frames.items → slice_get (numbers p.frames.items) n ≡ Some k → f ≡ get_or p.frames.items n f → n < length p.frames.items → tag_at m.store tag ≡ with_more more (tag_at p.store f.tag) → m.gaps ≡ p.gaps → q.gaps ≡ m.gaps → frames_of q ≡ changed n (retagged (tag_at m.store tag)) (frames_of m) → path_of q ≡ dom.at_number k (retagged_by (with_more more)) (path_of p)
+merged-path p m q k n f tag more g kept found is h stands first second written =
+    let marks = p.gaps.marks.items in
+    path-by p q (second ∙ first)
+    ∙ (ap (seen marks) written
+    ∙ (ap (λ (own : Tag). seen marks (changed n (retagged own) (frames_of m))) stands
+    ∙ (ap (λ frames. seen marks (changed n (retagged (with_more more (tag_at p.store f.tag))) frames)) (frames-grown p m g kept)
     ∙ (changed-number p k n (retagged (with_more more (tag_at p.store f.tag))) found
-    ∙ sym (tagged-by p k n f found is h (with_more more)))))
+    ∙ sym (tagged-by p k n f found is h (with_more more))))))
 
 -- The path up to the `html` element
 
@@ -91,21 +92,19 @@ other-goes f (g ∷ path) h e = ap (λ (b : Bool). cond b (f ∷ g ∷ path) (fr
 
 pub html-alone : (p : FramePath) → length p.frames.items ≡ 1 → from_html (path_of p) ≡ path_of p
 html-alone p long =
-    let e = reverse-last (frames_of p) 0 dom.document (frames-length p ∙ long) in
+    let e = path-alone p long in
     ap from_html e ∙ sym e
 
 pub html-on-top : (p : FramePath) (n : ℕ) (f : Frame) → length p.frames.items ≡ suc n → f ≡ get_or p.frames.items n f → nat_eq f.number 1 ≡ true → from_html (path_of p) ≡ path_of p
 html-on-top p n f long is same =
     let e = path-top p n f long is in
-    ap from_html e ∙ (html-stays (frame_of p.store f) (reverse (take n (frames_of p))) same ∙ sym e)
+    ap from_html e ∙ (html-stays (frame_of p.store f) (around p n) same ∙ sym e)
 
 pub other-on-top : (p : FramePath) (n : ℕ) (f : Frame) → length p.frames.items ≡ suc n → 0 < n → f ≡ get_or p.frames.items n f → nat_eq f.number 1 ≡ false → from_html (path_of p) ≡ from_html (inner (path_of p))
 other-on-top p n f long some is other =
     let e = path-top p n f long is in
-    let many = ap length e in
-    let all = path-length p in
     ap from_html e
-    ∙ (other-goes (frame_of p.store f) (reverse (take n (frames_of p))) (omega arith) other
+    ∙ (other-goes (frame_of p.store f) (around p n) (some-around p n some (omega arith)) other
     ∙ sym (ap (λ (path : dom.Path). from_html (inner path)) e))
 
 -- Open frames, from the outermost on
@@ -139,21 +138,10 @@ opened-none p n h =
     let many = frames-length p in
     ap dom.elements (drop_all n (frames_of p) (omega arith))
 
-filter-reverse : (xs : List dom.Frame) → dom.elements (reverse xs) ≡ reverse (dom.elements xs)
-filter-reverse [] = refl
-filter-reverse (x ∷ xs) =
-    ap dom.elements (reverse-append (x ∷ []) xs)
-    ∙ (filter-append (λ (f : dom.Frame). f.is_open) (reverse xs) (x ∷ [])
-    ∙ (ap (λ (own : List dom.Frame). own ++ dom.elements (x ∷ [])) (filter-reverse xs) ∙ one x.is_open))
-  where
-    one : (b : Bool) → reverse (dom.elements xs) ++ cond b (x ∷ []) [] ≡ reverse (cond b (x ∷ dom.elements xs) (dom.elements xs))
-    one true = sym (reverse-append (x ∷ []) (dom.elements xs))
-    one false = append-nil (reverse (dom.elements xs))
-
 -- all of them
 pub opened-all : (p : FramePath) → dom.elements (path_of p) ≡ reverse (opened_from p 0)
 unfolding opened_from
-opened-all p = filter-reverse (frames_of p)
+opened-all p = elements-seen p ∙ filter-reverse (frames_of p)
 
 reverse-two : (f g : dom.Frame) (rest : List dom.Frame) → reverse (f ∷ g ∷ rest) ≡ reverse rest ++ g ∷ f ∷ []
 reverse-two f g rest = reverse-append (f ∷ g ∷ []) rest

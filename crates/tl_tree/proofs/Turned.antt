@@ -8,10 +8,9 @@ use Rattle.std.specs.List.{list_all, list_any}
 use Rattle.tl_dom_spec.specs.Path as dom
 use Rattle.tl_dom_spec.specs.Tags as tags
 use Rattle.tl_tree.proofs.Entering.{Opens, opens-trans, same-entered}
-use Rattle.tl_tree.proofs.Furthest.{frame-there}
 use Rattle.tl_tree.proofs.Listed.{all-drop, all-take, map-take}
 use Rattle.tl_tree.proofs.Numbers.{all-append, fresh}
-use Rattle.tl_tree.specs.Inner.Adopted.{emptied, filled, frame_at, moved, renewed, renewed_near, settled_in}
+use Rattle.tl_tree.specs.Inner.Adopted.{emptied, filled, moved, renewed}
 use Rattle.tl_tree.specs.Inner.Entered.{entered, entered_of, role_at, turned, turned_after}
 use Rattle.tl_tree.specs.Inner.Framed.{are_distinct, is_before, is_numbered}
 use Rattle.tl_tree.specs.Inner.Frames.{changed, frame_of, frames_of}
@@ -189,35 +188,3 @@ turned-frames p q n m k j tag x y b new e same at is-m is-k h is is-x is-y =
     two-done zero f g change (a ∷ frames) h = refl
     two-done (suc n) f g change (a ∷ frames) h =
         ap (λ rest. a ∷ rest) (two-done n f g change frames (omega arith))
-
--- What is settled around the block first
-
-changed-twice : (n : ℕ) (first second : dom.Frame → dom.Frame) (frames : List dom.Frame) → changed n second (changed n first frames) ≡ changed n (λ (f : dom.Frame). second (first f)) frames
-changed-twice n first second [] = refl
-changed-twice zero first second (f ∷ frames) = refl
-changed-twice (suc n) first second (f ∷ frames) =
-    ap (λ rest. f ∷ rest) (changed-twice n first second frames)
-
-drop-changed : (n : ℕ) (change : dom.Frame → dom.Frame) (frames : List dom.Frame) → drop (suc (suc n)) (changed n change frames) ≡ drop (suc (suc n)) frames
-drop-changed n change [] = refl
-drop-changed zero change (f ∷ frames) = refl
-drop-changed (suc n) change (f ∷ frames) = drop-changed n change frames
-
-pub near-frames : (p first second third q : FramePath) (n k next : ℕ) (tag tag' : tags.Tag) (own : Frame) (nodes : dom.Nodes) → frames_of first ≡ frames_of p → frames_of second ≡ changed n (dom.with_nodes nodes) (frames_of first) → frames_of third ≡ changed n dom.caught_up (frames_of second) → nodes ≡ dom.node_of (frame_of p.store own) → own ≡ get_or p.frames.items k own → k ≡ suc n → k < length p.frames.items → next ≡ p.next → tag ≡ tag' → frames_of q ≡ take k (frames_of third) ++ renewed next tag (drop (k + 1) (frames_of third)) → frames_of q ≡ renewed_near n p.next tag' (frame_at p k) (frames_of p)
-near-frames p first second third q n k next tag tag' own nodes one two three is-node is is-k h is-next is-tag e =
-    let frames = frames_of p in
-    let node = dom.node_of (frame_at p k) in
-    let after : k + 1 ≡ suc (suc n) = omega arith in
-    let same : nodes ≡ node = is-node ∙ ap dom.node_of (sym (frame-there p k own is h)) in
-    let settled : frames_of third ≡ changed n (settled_in node) frames =
-    three
-    ∙ (ap (changed n dom.caught_up) (two ∙ ap (changed n (dom.with_nodes nodes)) one)
-    ∙ (changed-twice n (dom.with_nodes nodes) dom.caught_up frames ∙ ap (λ (own : dom.Nodes). changed n (settled_in own) frames) same)) in
-    let last = changed n (settled_in node) frames in
-    e
-    ∙ (ap (λ fs. take k fs ++ renewed next tag (drop (k + 1) fs)) settled
-    ∙ (ap (λ i. take i last ++ renewed next tag (drop (k + 1) last)) is-k
-    ∙ (ap (λ i. take (suc n) last ++ renewed next tag (drop i last)) after
-    ∙ (ap (λ fs. take (suc n) last ++ renewed next tag fs) (drop-changed n (settled_in node) frames)
-    ∙ (ap (λ i. take (suc n) last ++ renewed i tag (drop (suc (suc n)) frames)) is-next
-    ∙ ap (λ (t : tags.Tag). take (suc n) last ++ renewed p.next t (drop (suc (suc n)) frames)) is-tag)))))

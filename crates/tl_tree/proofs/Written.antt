@@ -1,8 +1,8 @@
 -- Frames as the store grows, and one of them written.
-use Rattle.std.proofs.Common.{ap, arith, sym, subst, ◌∙◌, ◌≡◌, ◌≤◌, ◌<◌, ◌&&◌, ◌++◌, ◌∷◌, [], Bool, Err, IfOk, IsTrue, List, Ok, Result, false, get_or, length, map, nat_le, nat_lt, refl, reverse, set, suc, take, zero, ℕ}
+use Rattle.std.proofs.Common.{ap, arith, sym, subst, ◌∙◌, ◌≡◌, ◌≤◌, ◌<◌, ◌+◌, ◌-◌, ◌&&◌, ◌++◌, ◌∷◌, [], Bool, Err, IfOk, IsTrue, List, Ok, Result, false, get_or, length, map, nat_le, nat_lt, refl, reverse, set, suc, take, zero, ℕ}
 use Rattle.std.proofs.lemmas.Bool.{and_from, and_parts, leb-true, le-leb, ltb-true, lt-ltb}
 use Rattle.std.proofs.Math.ListN.{get_or-map}
-use Rattle.std.proofs.lemmas.List.{length-map, length-reverse}
+use Rattle.std.proofs.lemmas.List.{length-map, length-reverse, length-take-le}
 use Rattle.std.specs.List.{list_all}
 use Rattle.tl_dom_spec.specs.Path as dom
 use Rattle.tl_dom_spec.specs.Tags as tags
@@ -10,9 +10,11 @@ use Rattle.tl_names.specs.declared.element_name.TheConstants.ElementName.{OTHER}
 use Rattle.tl_tree.proofs.Grown.{grows_trans, node-element, node-grown, node-joined, nodes-grown, nodes-none, tag-at-grown}
 use Rattle.tl_tree.proofs.Heads.{at-head-none, at-head-twice}
 use Rattle.tl_tree.proofs.Listed.{begins-longer, map-same, map-take}
-use Rattle.tl_tree.proofs.Changed.{changed-same, changed-top, changed-top-twice, reverse-last}
+use Rattle.tl_tree.proofs.Changed.{changed-same}
+use Rattle.tl_tree.proofs.Gone.{path-by, seen-changed, seen-last, seen-twice, there-length, there-none}
 use Rattle.tl_tree.specs.Inner.Framed.{frame_is_within}
-use Rattle.tl_tree.specs.Inner.Frames.{changed, children_of, frame_of, frames_of, is_frame, path_of, place_of, with_late}
+use Rattle.tl_tree.specs.Inner.Frames.{changed, children_of, frame_of, frames_of, is_frame, path_of, place_of, seen, with_late}
+use Rattle.tl_tree.specs.Inner.Gone.{there}
 use Rattle.tl_tree.specs.Inner.Store.{Grows, bytes_of, is_node, is_row, node_of, nodes_of, tag_at, tag_of}
 use Rattle.tl_tree.specs.declared.cell.Node.{Node}
 use Rattle.tl_tree.specs.declared.cell.Node.TheVariants.{Element, Joined}
@@ -219,8 +221,29 @@ pub frames-length : (p : FramePath) → length (frames_of p) ≡ length p.frames
 unfolding frames_of
 frames-length p = length-map p.frames.items (frame_of p.store)
 
-pub path-length : (p : FramePath) → length (path_of p) ≡ length p.frames.items
-path-length p = length-reverse (frames_of p) ∙ frames-length p
+pub path-length : (p : FramePath) → length (path_of p) + p.gaps.count ≡ length p.frames.items
+path-length p =
+    let marks = p.gaps.marks.items in
+    let some = p.some in
+    let many = frames-length p in
+    let own = length-reverse (there marks (frames_of p)) in
+    let all = there-length marks (frames_of p) (omega arith) in
+    let gone = p.gaps.counted in
+    omega arith
+
+-- the innermost one is there
+pub path-some : (p : FramePath) → 0 < length (path_of p)
+path-some p =
+    let some = p.some in
+    let n = length p.frames.items - 1 in
+    let long : length (frames_of p) ≡ suc n = frames-length p ∙ omega arith in
+    let many = ap length (seen-last p.gaps.marks.items (frames_of p) n dom.document long (omega arith)) in
+    omega arith
+
+-- frames as the store grows, where the same are gone
+pub path-grown : (p q : FramePath) → Grows p.store q.store → q.frames.items ≡ p.frames.items → q.gaps ≡ p.gaps → path_of q ≡ path_of p
+path-grown p q g e same =
+    path-by p q same ∙ ap (seen p.gaps.marks.items) (frames-grown p q g e)
 
 pub caught-up-none : (p : FramePath) (i : ℕ) (f : Frame) → f ≡ get_or p.frames.items i f → i < length p.frames.items → f.waiting ≡ 0 → frames_of p ≡ changed i dom.caught_up (frames_of p)
 caught-up-none p i f is h e =
@@ -229,39 +252,60 @@ caught-up-none p i f is h e =
     (nothing-waits (frame_of p.store f) (ap (nodes_of p.store) e ∙ nodes-none p.store)))
 
 -- The document alone
-pub path-new : (p : FramePath) (s : Store) (tag : ℕ) (none : List Frame) → none ≡ [] → p.frames.items ≡ none ++ record { number = 0; tag = tag; children = 0; late = 0; waiting = 0; place = Here; is_open = false } ∷ [] → tag_at p.store tag ≡ tag_of s (record { space = Html; name = record { start = 0; len = 0 }; known = OTHER; number = 0; list = Tags; first_attribute = 0; attribute_count = 0; start = 0 }) → path_of p ≡ dom.document ∷ []
+pub path-new : (p : FramePath) (s : Store) (tag : ℕ) (none : List Frame) → p.gaps.marks.items ≡ [] → none ≡ [] → p.frames.items ≡ none ++ record { number = 0; tag = tag; children = 0; late = 0; waiting = 0; place = Here; is_open = false } ∷ [] → tag_at p.store tag ≡ tag_of s (record { space = Html; name = record { start = 0; len = 0 }; known = OTHER; number = 0; list = Tags; first_attribute = 0; attribute_count = 0; start = 0 }) → path_of p ≡ dom.document ∷ []
 unfolding frames_of tag_of bytes_of
-path-new p s tag none is e t =
-    ap (λ frames. reverse (map (frame_of p.store) frames)) (e ∙ ap (λ (frames : List Frame). frames ++ record { number = 0; tag = tag; children = 0; late = 0; waiting = 0; place = Here; is_open = false } ∷ []) is)
-    ∙ ap (λ (f : dom.Frame). f ∷ []) (same-frame 0 dom.here false (tag_at p.store tag) (tags.bare_tag []) (dom.at_head (nodes_of p.store 0) (nodes_of p.store 0)) dom.no_nodes (nodes_of p.store 0) dom.no_nodes t (children-none p.store) (nodes-none p.store))
+path-new p s tag none whole is e t =
+    ap (λ (marks : List Bool). seen marks (frames_of p)) whole
+    ∙ (ap (λ frames. reverse (map (frame_of p.store) frames)) (e ∙ ap (λ (frames : List Frame). frames ++ record { number = 0; tag = tag; children = 0; late = 0; waiting = 0; place = Here; is_open = false } ∷ []) is)
+    ∙ ap (λ (f : dom.Frame). f ∷ []) (same-frame 0 dom.here false (tag_at p.store tag) (tags.bare_tag []) (dom.at_head (nodes_of p.store 0) (nodes_of p.store 0)) dom.no_nodes (nodes_of p.store 0) dom.no_nodes t (children-none p.store) (nodes-none p.store)))
 
 -- What goes to the innermost frame
 
-pub put-on-top : (p m q : FramePath) (n : ℕ) (node : Node) → Grows p.store m.store → IsTrue (is_node p.store node) → length p.frames.items ≡ suc n → frames_of m ≡ changed n dom.caught_up (frames_of p) → frames_of q ≡ changed n (dom.with_nodes (node_of m.store node)) (frames_of m) → path_of q ≡ dom.put dom.here (node_of p.store node) (path_of p)
-put-on-top p m q n node g h long first second =
-    changed-top-twice dom.caught_up (dom.with_nodes (node_of m.store node)) (frames_of p) (frames_of m) (frames_of q) n (frames-length p ∙ long) first second
+pub put-on-top : (p m q : FramePath) (n : ℕ) (node : Node) → Grows p.store m.store → IsTrue (is_node p.store node) → length p.frames.items ≡ suc n → q.gaps ≡ p.gaps → frames_of m ≡ changed n dom.caught_up (frames_of p) → frames_of q ≡ changed n (dom.with_nodes (node_of m.store node)) (frames_of m) → path_of q ≡ dom.put dom.here (node_of p.store node) (path_of p)
+put-on-top p m q n node g h long same first second =
+    let some = p.some in
+    path-by p q same
+    ∙ seen-twice p.gaps.marks.items dom.caught_up (dom.with_nodes (node_of m.store node)) (frames_of p) (frames_of m) (frames_of q) n (frames-length p ∙ long) (omega arith) first second
     ∙ ap (λ (nodes : dom.Nodes). dom.on_top (λ f. dom.with_nodes nodes (dom.caught_up f)) (path_of p)) (node-grown p.store m.store g node h)
 
-pub settle-on-top : (p m q : FramePath) (n : ℕ) (node : Node) → length p.frames.items ≡ suc n → frames_of m ≡ changed n (dom.with_nodes (node_of p.store node)) (frames_of p) → frames_of q ≡ changed n dom.caught_up (frames_of m) → path_of q ≡ dom.settled_at dom.here (node_of p.store node) (path_of p)
-settle-on-top p m q n node long first second =
-    changed-top-twice (dom.with_nodes (node_of p.store node)) dom.caught_up (frames_of p) (frames_of m) (frames_of q) n (frames-length p ∙ long) first second
+pub settle-on-top : (p m q : FramePath) (n : ℕ) (node : Node) → length p.frames.items ≡ suc n → q.gaps ≡ p.gaps → frames_of m ≡ changed n (dom.with_nodes (node_of p.store node)) (frames_of p) → frames_of q ≡ changed n dom.caught_up (frames_of m) → path_of q ≡ dom.settled_at dom.here (node_of p.store node) (path_of p)
+settle-on-top p m q n node long same first second =
+    let some = p.some in
+    path-by p q same
+    ∙ seen-twice p.gaps.marks.items (dom.with_nodes (node_of p.store node)) dom.caught_up (frames_of p) (frames_of m) (frames_of q) n (frames-length p ∙ long) (omega arith) first second
 
 -- nodes at the end of the `head` in the innermost frame
-pub put-late : (p q : FramePath) (n : ℕ) (nodes : dom.Nodes) → length p.frames.items ≡ suc n → frames_of q ≡ changed n (with_late nodes) (frames_of p) → path_of q ≡ dom.put dom.into_head nodes (path_of p)
-put-late p q n nodes long e =
-    ap reverse e ∙ changed-top (with_late nodes) (frames_of p) n (frames-length p ∙ long)
+pub put-late : (p q : FramePath) (n : ℕ) (nodes : dom.Nodes) → length p.frames.items ≡ suc n → q.gaps ≡ p.gaps → frames_of q ≡ changed n (with_late nodes) (frames_of p) → path_of q ≡ dom.put dom.into_head nodes (path_of p)
+put-late p q n nodes long same e =
+    let some = p.some in
+    path-by p q same
+    ∙ (ap (seen p.gaps.marks.items) e
+    ∙ seen-changed p.gaps.marks.items (with_late nodes) (frames_of p) n (frames-length p ∙ long) (omega arith))
 
 -- The innermost frame goes
 
-pub taken-top : (p q : FramePath) (n : ℕ) (f : Frame) → length p.frames.items ≡ suc n → f ≡ get_or p.frames.items n f → q.frames.items ≡ take n p.frames.items → q.store ≡ p.store → path_of p ≡ frame_of p.store f ∷ path_of q
+take-less : {A : Type 0} (m n : ℕ) (xs : List A) → m ≤ n → take m (take n xs) ≡ take m xs
+take-less zero n xs h = refl
+take-less (suc m) zero xs h = absurd (omega arith)
+take-less (suc m) (suc n) [] h = refl
+take-less (suc m) (suc n) (x ∷ xs) h = ap (λ rest. x ∷ rest) (take-less m n xs (omega arith))
+
+pub taken-top : (p q : FramePath) (n left : ℕ) (f : Frame) → length p.frames.items ≡ suc n → f ≡ get_or p.frames.items n f → ((frames : List dom.Frame) → length frames ≡ n → there p.gaps.marks.items frames ≡ there q.gaps.marks.items (take left frames)) → q.frames.items ≡ take left p.frames.items → left ≤ n → q.store ≡ p.store → path_of p ≡ frame_of p.store f ∷ path_of q
 unfolding frames_of
-taken-top p q n f long is frames store =
+taken-top p q n left f long is cut frames less store =
     let own = frame_of p.store f in
-    reverse-last (map (frame_of p.store) p.frames.items) n own (length-map p.frames.items (frame_of p.store) ∙ long)
-    ∙ (ap (λ x. x ∷ reverse (take n (map (frame_of p.store) p.frames.items))) (get_or-map (frame_of p.store) p.frames.items n f ∙ ap (frame_of p.store) (sym is))
-    ∙ ap (λ rest. own ∷ reverse rest)
-    (sym (map-take (frame_of p.store) n p.frames.items)
-    ∙ (ap (map (frame_of p.store)) (sym frames) ∙ ap (λ (s : Store). map (frame_of s) q.frames.items) (sym store))))
+    let all = map (frame_of p.store) p.frames.items in
+    let marks = p.gaps.marks.items in
+    let some = p.some in
+    let many = length-map p.frames.items (frame_of p.store) in
+    let front = length-take-le n all (omega arith) in
+    let left-of : take left (take n all) ≡ map (frame_of q.store) q.frames.items =
+    take-less left n all less
+    ∙ (sym (map-take (frame_of p.store) left p.frames.items)
+    ∙ (ap (map (frame_of p.store)) (sym frames) ∙ ap (λ (s : Store). map (frame_of s) q.frames.items) (sym store))) in
+    seen-last marks all n own (omega arith) (omega arith)
+    ∙ (ap (λ x. x ∷ seen marks (take n all)) (get_or-map (frame_of p.store) p.frames.items n f ∙ ap (frame_of p.store) (sym is))
+    ∙ ap (λ rest. own ∷ rest) (ap reverse (cut (take n all) front) ∙ ap (seen q.gaps.marks.items) left-of))
 
 -- where nothing goes to the end of the `head` any more
 pub element-none : (s t : Store) (f own : Frame) → frame_of t own ≡ frame_of s f → own.late ≡ 0 → own.waiting ≡ 0 → node_of t (Element own.tag own.children) ≡ dom.node_of (frame_of s f)
@@ -292,14 +336,13 @@ settled-outer : (f : dom.Frame) (path : dom.Path) → 0 < length path → dom.to
 settled-outer f [] h = absurd (omega arith)
 settled-outer f (g ∷ path) h = refl
 
-pub settle-top : (p m n q : FramePath) (f : Frame) (node : Node) → path_of p ≡ frame_of p.store f ∷ path_of m → m.store ≡ p.store → frames_of n ≡ frames_of m → node_of n.store node ≡ dom.node_of (frame_of m.store f) → path_of q ≡ dom.settled_at (place_of f.place) (node_of n.store node) (path_of n) → path_of q ≡ dom.top_settled (path_of p)
-settle-top p m n q f node path store frames stands settled =
-    let many = path-length m in
-    let some = m.some in
+pub settle-top : (p m n q : FramePath) (f : Frame) (node : Node) → path_of p ≡ frame_of p.store f ∷ path_of m → m.store ≡ p.store → frames_of n ≡ frames_of m → n.gaps ≡ m.gaps → node_of n.store node ≡ dom.node_of (frame_of m.store f) → path_of q ≡ dom.settled_at (place_of f.place) (node_of n.store node) (path_of n) → path_of q ≡ dom.top_settled (path_of p)
+settle-top p m n q f node path store frames same stands settled =
+    let many = path-some m in
     let place = place_of f.place in
     settled
     ∙ (ap (λ (nodes : dom.Nodes). dom.settled_at place nodes (path_of n)) (stands ∙ ap (λ (s : Store). dom.node_of (frame_of s f)) store)
-    ∙ (ap (λ (all : List dom.Frame). dom.settled_at place (dom.node_of (frame_of p.store f)) (reverse all)) frames
+    ∙ (ap (dom.settled_at place (dom.node_of (frame_of p.store f))) (path-by m n same ∙ ap (seen m.gaps.marks.items) frames)
     ∙ (sym (settled-outer (frame_of p.store f) (path_of m) (omega arith)) ∙ sym (ap dom.top_settled path))))
 
 -- the document stays
@@ -307,8 +350,9 @@ pub settle-alone : (p : FramePath) → length p.frames.items < 2 → path_of p �
 settle-alone p h =
     let some = p.some in
     let long : length (frames_of p) ≡ suc 0 = frames-length p ∙ omega arith in
-    let is = reverse-last (frames_of p) 0 dom.document long in
-    is ∙ sym (ap dom.top_settled is)
+    let is = seen-last p.gaps.marks.items (frames_of p) 0 dom.document long (omega arith) in
+    let alone = is ∙ ap (λ rest. get_or (frames_of p) 0 dom.document ∷ reverse rest) (there-none p.gaps.marks.items) in
+    alone ∙ sym (ap dom.top_settled alone)
 
 -- what stands in a frame, as a row
 pub content-none : (s t : Store) (f own : Frame) → frame_of t own ≡ frame_of s f → own.late ≡ 0 → own.waiting ≡ 0 → nodes_of t own.children ≡ dom.joined (frame_of s f).children (frame_of s f).waiting

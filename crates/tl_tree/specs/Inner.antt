@@ -7,6 +7,7 @@ pub mod RowView
 pub mod Settling
 pub mod Seating
 pub mod Framed
+pub mod Gone
 pub mod NameLists
 pub mod Tests
 pub mod Frames

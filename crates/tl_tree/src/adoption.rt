@@ -1,11 +1,11 @@
 //! The adoption agency algorithm (13.2.6.4.7), on the path and the list of active formatting
 //! elements.
-ghost use Rattle.std.specs.Prelude.{Bool, IfOk, List, OnOk, false, length, reverse, take, ℕ, ◌+◌, ◌<◌, ◌^◌, ◌≡◌, ◌≤◌};
+ghost use Rattle.std.specs.Prelude.{IfOk, List, OnOk, [], false, length, reverse, slice_index_or, take, true, ℕ, ◌+◌, ◌<◌, ◌^◌, ◌≡◌, ◌≤◌};
 ghost use Rattle.tl_dom_spec.specs.Adoption.{cloned, entry_moved, inside_of};
 ghost use Rattle.tl_dom_spec.specs.Path as dom;
-ghost use Rattle.tl_dom_spec.specs.Path.{elements};
+ghost use Rattle.tl_dom_spec.specs.Path.{elements, here};
 ghost use Rattle.tl_tree.specs.Inner.Active.{active_of, listed_of};
-ghost use Rattle.tl_tree.specs.Inner.Adopted.{AreMade, IsAdopted, IsFirst, IsNear, clones_in, frame_at, none_cloned, with_element};
+ghost use Rattle.tl_tree.specs.Inner.Adopted.{AreMade, IsAdopted, IsFirst, IsNear, clones_in, frame_at, is_listed_between, none_cloned, with_element};
 ghost use Rattle.tl_tree.specs.Inner.Frames.{frames_of, path_of};
 ghost use Rattle.tl_tree.specs.Inner.Store.{Grows, tag_at};
 ghost use Rattle.tl_tree.specs.Inner.Tallied.{IsTallied};
@@ -58,6 +58,7 @@ fn clone_at(
     index: usize,
     between: Between,
 ) -> Result<Between, GrowError>
+    requires whole { path.old.gaps.marks.items ≡ [] }
     requires block { block ≤ length path.old.frames.items }
     requires index { index < block }
     requires few { between.seen + index < block }
@@ -73,6 +74,7 @@ fn clone_at(
     ensures len { OnOk result (length path.old.frames.items ≤ length path.new.frames.items) }
     ensures few { IfOk result (λ after. after.seen ≤ between.seen + 1) }
     ensures made { IfOk result (λ after. after.made ≤ after.seen) }
+    ensures gaps { path.new.gaps ≡ path.old.gaps }
     ensures store { path.new.store ≡ path.old.store }
     ensures more { path.old.next ≤ path.new.next }
     ensures numbered { active.new.greatest_number < path.new.next }
@@ -112,6 +114,7 @@ fn add_clones(
     block: usize,
     number: u32,
 ) -> Result<usize, GrowError>
+    requires whole { path.old.gaps.marks.items ≡ [] }
     requires block { block ≤ length path.old.frames.items }
     requires numbered { active.old.greatest_number < path.old.next }
     requires listed { active.old.greatest_tag < length path.old.store.tags.items }
@@ -120,6 +123,7 @@ fn add_clones(
         (cloned 0 (elements (inside_of number (reverse (take block (frames_of path.old)))))
         (active_of path.old.store active.old) path.old.next)
         (none_cloned (active_of path.new.store active.new) path.new.next) 0 made) }
+    ensures gaps { path.new.gaps ≡ path.old.gaps }
     ensures store { path.new.store ≡ path.old.store }
     ensures more { path.old.next ≤ path.new.next }
     ensures numbered { active.new.greatest_number < path.new.next }
@@ -168,23 +172,35 @@ fn list_new(
     active.list_behind(path, first, new, own.tag)
 }
 
-// A round where the formatting element stands right inside of a place, and the block right inside
-// of it: nothing is made anew, no frame is moved, and the block isn't foster parented.
-fn adopt_near(
+// A round where all between the common ancestor and the block is settled: nothing is made anew, no
+// frame is moved, and the block isn't foster parented.
+fn adopt_over(
     path: &mut FramePath<'_>,
     active: &mut ActiveList,
     own: Listed,
     place: usize,
+    block: usize,
+    is_fostering: bool,
 ) -> Result<usize, GrowError>
-    requires within { place + 2 < length path.old.frames.items }
+    requires order { place + 1 < block }
+    requires block { block < length path.old.frames.items }
+    requires open { (frame_at path.old block).is_open ≡ true }
+    requires near { IsNear is_fostering own.number (frame_at path.old place)
+        (frame_at path.old (place + 1)) }
+    requires stands { slice_index_or path.old.gaps.marks.items (place + 1) false ≡ false }
+    requires between { (n : ℕ) → place < n → n < block →
+        slice_index_or path.old.gaps.marks.items n false ≡ false →
+        (frame_at path.old n).place ≡ here }
+    requires unlisted { is_listed_between (active_of path.old.store active.old) own.number path.old
+        block
+        ≡ false }
     requires numbered { active.old.greatest_number < path.old.next }
     requires listed { active.old.greatest_tag < length path.old.store.tags.items }
     requires own { own.tag < length path.old.store.tags.items }
     requires tallied { IsTallied path.old.store active.old }
-    ensures ok { IfOk result (λ made. (is_fostering : Bool) →
-        IsNear is_fostering own.number (frame_at path.old place) (frame_at path.old (place + 1)) →
-        IsAdopted is_fostering (listed_of path.old.store own) (frame_at path.old (place + 2))
-        (clones_in (listed_of path.old.store own) (frame_at path.old (place + 2))
+    ensures ok { IfOk result (λ made.
+        IsAdopted is_fostering (listed_of path.old.store own) (frame_at path.old block)
+        (clones_in (listed_of path.old.store own) (frame_at path.old block)
         (path_of path.old) (active_of path.old.store active.old) path.old.next)
         path.old path.new active.new made) }
     ensures more { path.old.next ≤ path.new.next }
@@ -194,7 +210,7 @@ fn adopt_near(
     ensures grows { Grows path.old.store path.new.store }
 {
     let new = path.next;
-    path.renew_near(place, own.tag)?;
+    path.renew_over(place, block, own.tag)?;
     active.relist(own.number, new);
     Ok(0)
 }
@@ -207,6 +223,7 @@ fn adopt_far(
     block: usize,
     is_fostering: bool,
 ) -> Result<usize, GrowError>
+    requires whole { path.old.gaps.marks.items ≡ [] }
     requires some { 0 < block }
     requires block { block < length path.old.frames.items }
     requires numbered { active.old.greatest_number < path.old.next }
@@ -234,9 +251,8 @@ fn adopt_far(
     Ok(made)
 }
 
-/// A round with a furthest block, which stands at a place of the path. How many elements were made
-/// anew is the answer. Frames may be left that aren't known where the path is searched.
-pub(crate) fn adopt(
+// A round where frames are moved: those that are gone are taken out before.
+fn adopt_whole(
     path: &mut FramePath<'_>,
     active: &mut ActiveList,
     own: Listed,
@@ -245,6 +261,7 @@ pub(crate) fn adopt(
 ) -> Result<usize, GrowError>
     requires some { 0 < block }
     requires block { block < length path.old.frames.items }
+    requires open { (frame_at path.old block).is_open ≡ true }
     requires numbered { active.old.greatest_number < path.old.next }
     requires listed { active.old.greatest_tag < length path.old.store.tags.items }
     requires own { own.tag < length path.old.store.tags.items }
@@ -260,8 +277,43 @@ pub(crate) fn adopt(
     ensures tallied { IsTallied path.new.store active.new }
     ensures grows { Grows path.old.store path.new.store }
 {
-    match path.near_ancestor(block, own.number, is_fostering) {
-        Some(place) => adopt_near(path, active, own, place),
-        None => adopt_far(path, active, own, block, is_fostering),
+    let block = path.close_gaps(block)?;
+    adopt_far(path, active, own, block, is_fostering)
+}
+
+/// A round with a furthest block, which stands at a place of the path. How many elements were made
+/// anew is the answer. Frames may be left that aren't known where the path is searched.
+pub(crate) fn adopt(
+    path: &mut FramePath<'_>,
+    active: &mut ActiveList,
+    own: Listed,
+    block: usize,
+    is_fostering: bool,
+) -> Result<usize, GrowError>
+    requires some { 0 < block }
+    requires block { block < length path.old.frames.items }
+    requires open { (frame_at path.old block).is_open ≡ true }
+    requires numbered { active.old.greatest_number < path.old.next }
+    requires listed { active.old.greatest_tag < length path.old.store.tags.items }
+    requires own { own.tag < length path.old.store.tags.items }
+    requires tallied { IsTallied path.old.store active.old }
+    ensures ok { IfOk result (λ made.
+        IsAdopted is_fostering (listed_of path.old.store own) (frame_at path.old block)
+        (clones_in (listed_of path.old.store own) (frame_at path.old block) (path_of path.old)
+        (active_of path.old.store active.old) path.old.next)
+        path.old path.new active.new made) }
+    ensures more { path.old.next ≤ path.new.next }
+    ensures numbered { active.new.greatest_number < path.new.next }
+    ensures listed { active.new.greatest_tag < length path.old.store.tags.items }
+    ensures tallied { IsTallied path.new.store active.new }
+    ensures grows { Grows path.old.store path.new.store }
+{
+    // Then as many frames are taken out as went since none was gone.
+    if path.gaps.count > path.frames.len() / 2 {
+        return adopt_whole(path, active, own, block, is_fostering);
+    }
+    match path.ancestor_over(active, block, own.number, is_fostering) {
+        Some(place) => adopt_over(path, active, own, place, block, is_fostering),
+        None => adopt_whole(path, active, own, block, is_fostering),
     }
 }

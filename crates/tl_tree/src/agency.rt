@@ -1,6 +1,6 @@
 //! The rounds of the adoption agency algorithm (13.2.6.4.7), and any other end tag.
 ghost use Rattle.std.specs.Option.{option_map};
-ghost use Rattle.std.specs.Prelude.{IfOk, IfSome, List, None, OnOk, Some, length, not, suc, ◌&&◌, ◌+◌, ◌<◌, ◌≡◌, ℕ};
+ghost use Rattle.std.specs.Prelude.{IfOk, IfSome, List, None, OnOk, Some, length, not, suc, true, ◌&&◌, ◌+◌, ◌<◌, ◌≡◌, ℕ};
 ghost use Rattle.tl_dom_spec.specs.Adoption.{adoption_agency, adoption_round, any_other_end_tag, furthest_block, with_block, with_formatting};
 ghost use Rattle.tl_dom_spec.specs.Builder as dom;
 ghost use Rattle.tl_dom_spec.specs.Builder.{current_node};
@@ -64,6 +64,7 @@ impl<'a> Builder<'a> {
     fn adopt_block(&mut self, own: Listed, block: usize) -> Result<usize, GrowError>
         requires some { 0 < block }
         requires block { block < length self.old.path.frames.items }
+        requires open { (frame_at self.old.path block).is_open ≡ true }
         requires own { own.tag < length self.old.path.store.tags.items }
         ensures ok { IfOk result (λ made. dom.Again
             (record (builder_of self.new) { added = (builder_of self.new).added + suc made })
@@ -84,6 +85,7 @@ impl<'a> Builder<'a> {
     fn with_furthest(&mut self, own: Listed, block: usize) -> Result<Outcome, GrowError>
         requires some { 0 < block }
         requires block { block < length self.old.path.frames.items }
+        requires open { (frame_at self.old.path block).is_open ≡ true }
         requires own { own.tag < length self.old.path.store.tags.items }
         ensures ok { IfOk result (λ outcome. outcome_of outcome (builder_of self.new)
             ≡ with_block (builder_of self.old) (listed_of self.old.path.store own)

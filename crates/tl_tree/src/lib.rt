@@ -45,6 +45,7 @@ mod formatting;
 mod found;
 mod fragment;
 mod frame;
+mod gaps;
 mod group;
 mod head;
 mod head_ends;

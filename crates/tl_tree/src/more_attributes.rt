@@ -173,6 +173,7 @@ impl<'a> FramePath<'a> {
             (tag_at self.new.store number).name ≡ (tag_at self.old.store own).name) }
         ensures within { IfOk result (λ number. IsTrue (is_tag_number self.new.store number)) }
         ensures frames { self.new.frames.items ≡ self.old.frames.items }
+        ensures gaps { self.new.gaps ≡ self.old.gaps }
         ensures next { self.new.next ≡ self.old.next }
         ensures grows { Grows self.old.store self.new.store }
     {

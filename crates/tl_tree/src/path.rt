@@ -8,11 +8,13 @@ ghost use Rattle.std.specs.List.{list_all};
 ghost use Rattle.std.specs.Prelude.{IsTrue, drop, length, map, take, ◌<◌, ◌≡◌};
 ghost use Rattle.tl_tree.specs.Inner.Entered.{entered, entered_of, role_at};
 ghost use Rattle.tl_tree.specs.Inner.Framed.{are_distinct, frame_is_within, is_before, is_here};
+ghost use Rattle.tl_tree.specs.Inner.Gone.{are_shut};
 
 use crate::cell::Node;
 use crate::entries::{AttributeList, Namespace, TagEntry};
 use crate::error::GrowError;
 use crate::frame::{Frame, Place};
+use crate::gaps::Gaps;
 use crate::head::{at_head, is_plain};
 use crate::names::Names;
 use crate::role::{Entered, Role, role_of};
@@ -36,13 +38,16 @@ pub(crate) struct FramePath<'a> {
     pub(crate) scopes: Scopes,
     /// From this place on each frame goes to what is right around it. It may be too great.
     pub(crate) placed: usize,
+    /// Which frames are gone. The innermost one is there.
+    pub(crate) gaps: Gaps,
     ghost within: { IsTrue
         (list_all
         (frame_is_within (length store.tags.items) (length store.cells.items))
         frames.items) },
     ghost distinct: { IsTrue (are_distinct frames.items) },
     ghost numbered: { IsTrue (list_all (is_before next) frames.items) },
-    ghost some: { 0 < length frames.items },
+    ghost some: { length gaps.marks.items < length frames.items },
+    ghost shut: { IsTrue (are_shut gaps.marks.items frames.items) },
     ghost known: { entered scopes
         ≡ take (length (entered scopes)) (map (entered_of store) frames.items) },
     ghost near: { IsTrue (list_all is_here (drop placed frames.items)) },
@@ -57,19 +62,21 @@ impl Drop for FramePath<'_> {
             next: _,
             scopes: _,
             placed: _,
+            gaps: _,
         } = self;
     }
 }
 
 impl<'a> FramePath<'a> {
     ghost use Rattle.std.specs.List.{list_any};
-    ghost use Rattle.std.specs.Prelude.{IfOk, IfSome, None, OnOk, Some, [], false, reverse, slice_get, slice_index_or, slice_set, take, true, ◌&&◌, ◌+◌, ◌-◌, ◌^◌, ◌∷◌, ◌≡◌, ◌≤◌};
+    ghost use Rattle.std.specs.Prelude.{IfOk, IfSome, None, OnOk, Some, [], false, reverse, slice_get, slice_index_or, slice_set, take, true, ℕ, ◌&&◌, ◌+◌, ◌-◌, ◌^◌, ◌∷◌, ◌≡◌, ◌≤◌};
     ghost use Rattle.tl_dom_spec.specs.Path.{and_element, at_number, behind, caught_up, document, elements, foster_place, has_open, has_within, here, implied_closed, into, is_open_number, joined, new_frame, no_nodes, place_in, popped, popped_through, popped_to, popped_while, put, settled_at, taken_out, top, top_settled, with_nodes, with_waiting, within, at_head, into_head};
     ghost use Rattle.tl_dom_spec.specs.Builder.{pushed_at};
     ghost use Rattle.tl_dom_spec.specs.Path as dom;
     ghost use Rattle.tl_dom_spec.specs.Tags.{is_foster_target};
+    ghost use Rattle.tl_tree.specs.Inner.Adopted.{frame_at};
     ghost use Rattle.tl_tree.specs.Inner.Framed.{is_numbered, numbers};
-    ghost use Rattle.tl_tree.specs.Inner.Frames.{changed, children_of, closed, fostered, frame_of, frames_of, is_frame, path_of, place_of, sought, test_of, test_or_other, with_late};
+    ghost use Rattle.tl_tree.specs.Inner.Frames.{around, changed, children_of, closed, fostered, frame_of, frames_of, is_frame, path_of, place_of, sought, test_of, test_or_other, with_late};
     ghost use Rattle.tl_tree.specs.Inner.Tests.{tag_test_of};
     ghost use Rattle.tl_tree.specs.Inner.Store.{Grows, is_node, is_row, is_tag_number, node_of, nodes_of, tag_at};
 
@@ -83,6 +90,7 @@ impl<'a> FramePath<'a> {
             next: _,
             scopes: _,
             placed: _,
+            gaps: _,
         } = self;
         store
     }
@@ -114,12 +122,14 @@ impl<'a> FramePath<'a> {
             place: Place::Here,
             is_open: false,
         })?;
+        let gaps = Gaps::new(alloc);
         Ok(FramePath {
             store,
             frames,
             next: 1,
             scopes: Scopes::new(alloc),
             placed: 0,
+            gaps,
         })
     }
 
@@ -132,6 +142,7 @@ impl<'a> FramePath<'a> {
         ensures within { IfOk result (λ row. IsTrue (is_row self.new.store row)) }
         ensures frames { self.new.frames.items ≡ self.old.frames.items }
         ensures next { self.new.next ≡ self.old.next }
+        ensures gaps { self.new.gaps ≡ self.old.gaps }
         ensures grows { Grows self.old.store self.new.store }
     {
         self.store.add(before, node)
@@ -146,6 +157,7 @@ impl<'a> FramePath<'a> {
         ensures within { IfOk result (λ end. IsTrue (is_row self.new.store end)) }
         ensures frames { self.new.frames.items ≡ self.old.frames.items }
         ensures next { self.new.next ≡ self.old.next }
+        ensures gaps { self.new.gaps ≡ self.old.gaps }
         ensures grows { Grows self.old.store self.new.store }
     {
         at_head(&mut self.store, row, late)
@@ -157,11 +169,14 @@ impl<'a> FramePath<'a> {
         requires within { IsTrue (is_frame self.old frame) }
         requires number { frame.number
             ≡ (slice_index_or self.old.frames.items index frame).number }
+        requires open { frame.is_open ≡ true
+            → (slice_index_or self.old.frames.items index frame).is_open ≡ true }
         requires role { role_at self.old.store frame.tag
             ≡ role_at self.old.store (slice_index_or self.old.frames.items index frame).tag }
         ensures frames { self.new.frames.items ≡ slice_set self.old.frames.items index frame }
         ensures store { self.new.store ≡ self.old.store }
         ensures next { self.new.next ≡ self.old.next }
+        ensures gaps { self.new.gaps ≡ self.old.gaps }
     {
         self.frames[index] = frame;
         self.placed = frame.place.placed_with(self.placed, index);
@@ -179,6 +194,7 @@ impl<'a> FramePath<'a> {
         ensures within { IfOk result (λ new. IsTrue (is_frame self.new new)) }
         ensures frames { self.new.frames.items ≡ self.old.frames.items }
         ensures next { self.new.next ≡ self.old.next }
+        ensures gaps { self.new.gaps ≡ self.old.gaps }
         ensures grows { Grows self.old.store self.new.store }
     {
         if frame.late == 0 {
@@ -200,6 +216,7 @@ impl<'a> FramePath<'a> {
         ensures within { IfOk result (λ new. IsTrue (is_frame self.new new)) }
         ensures frames { self.new.frames.items ≡ self.old.frames.items }
         ensures next { self.new.next ≡ self.old.next }
+        ensures gaps { self.new.gaps ≡ self.old.gaps }
         ensures grows { Grows self.old.store self.new.store }
     {
         let children = self.add_late(frame.children, frame.late)?;
@@ -226,6 +243,7 @@ impl<'a> FramePath<'a> {
         ensures within { IfOk result (λ new. IsTrue (is_frame self.new new)) }
         ensures frames { self.new.frames.items ≡ self.old.frames.items }
         ensures next { self.new.next ≡ self.old.next }
+        ensures gaps { self.new.gaps ≡ self.old.gaps }
         ensures grows { Grows self.old.store self.new.store }
     {
         if frame.late == 0 {
@@ -247,6 +265,7 @@ impl<'a> FramePath<'a> {
             ≡ changed index (with_nodes (node_of self.old.store node)) (frames_of self.old)) }
         ensures len { length self.new.frames.items ≡ length self.old.frames.items }
         ensures next { self.new.next ≡ self.old.next }
+        ensures gaps { self.new.gaps ≡ self.old.gaps }
         ensures grows { Grows self.old.store self.new.store }
     {
         let frame = self.frames[index];
@@ -265,6 +284,7 @@ impl<'a> FramePath<'a> {
             ≡ changed index (with_nodes (node_of self.old.store node)) (frames_of self.old)) }
         ensures len { length self.new.frames.items ≡ length self.old.frames.items }
         ensures next { self.new.next ≡ self.old.next }
+        ensures gaps { self.new.gaps ≡ self.old.gaps }
         ensures grows { Grows self.old.store self.new.store }
     {
         let before = self.frames[index];
@@ -286,6 +306,7 @@ impl<'a> FramePath<'a> {
             ≡ changed index (with_waiting (node_of self.old.store node)) (frames_of self.old)) }
         ensures len { length self.new.frames.items ≡ length self.old.frames.items }
         ensures next { self.new.next ≡ self.old.next }
+        ensures gaps { self.new.gaps ≡ self.old.gaps }
         ensures grows { Grows self.old.store self.new.store }
     {
         let frame = self.frames[index];
@@ -302,6 +323,7 @@ impl<'a> FramePath<'a> {
             ≡ changed index (with_late (node_of self.old.store node)) (frames_of self.old)) }
         ensures len { length self.new.frames.items ≡ length self.old.frames.items }
         ensures next { self.new.next ≡ self.old.next }
+        ensures gaps { self.new.gaps ≡ self.old.gaps }
         ensures grows { Grows self.old.store self.new.store }
     {
         let frame = self.frames[index];
@@ -318,6 +340,7 @@ impl<'a> FramePath<'a> {
             (frames_of self.new ≡ changed index caught_up (frames_of self.old)) }
         ensures len { length self.new.frames.items ≡ length self.old.frames.items }
         ensures next { self.new.next ≡ self.old.next }
+        ensures gaps { self.new.gaps ≡ self.old.gaps }
         ensures grows { Grows self.old.store self.new.store }
     {
         if self.frames[index].waiting == 0 {
@@ -335,6 +358,7 @@ impl<'a> FramePath<'a> {
             (frames_of self.new ≡ changed index caught_up (frames_of self.old)) }
         ensures len { length self.new.frames.items ≡ length self.old.frames.items }
         ensures next { self.new.next ≡ self.old.next }
+        ensures gaps { self.new.gaps ≡ self.old.gaps }
         ensures grows { Grows self.old.store self.new.store }
     {
         let frame = self.frames[index];
@@ -392,6 +416,7 @@ impl<'a> FramePath<'a> {
         ensures ok { OnOk result (path_of self.new
             ≡ put (into number) (node_of self.old.store node) (path_of self.old)) }
         ensures next { self.new.next ≡ self.old.next }
+        ensures gaps { self.new.gaps ≡ self.old.gaps }
         ensures grows { Grows self.old.store self.new.store }
     {
         match self.find(number) {
@@ -408,6 +433,7 @@ impl<'a> FramePath<'a> {
         ensures ok { OnOk result (path_of self.new
             ≡ put (behind number) (node_of self.old.store node) (path_of self.old)) }
         ensures next { self.new.next ≡ self.old.next }
+        ensures gaps { self.new.gaps ≡ self.old.gaps }
         ensures grows { Grows self.old.store self.new.store }
     {
         match self.find(number) {
@@ -424,6 +450,7 @@ impl<'a> FramePath<'a> {
         ensures ok { OnOk result (path_of self.new
             ≡ put into_head (node_of self.old.store node) (path_of self.old)) }
         ensures next { self.new.next ≡ self.old.next }
+        ensures gaps { self.new.gaps ≡ self.old.gaps }
         ensures grows { Grows self.old.store self.new.store }
     {
         let top = self.frames.len() - 1;
@@ -454,6 +481,7 @@ impl<'a> FramePath<'a> {
         ensures ok { OnOk result (path_of self.new
             ≡ settled_at here (node_of self.old.store node) (path_of self.old)) }
         ensures next { self.new.next ≡ self.old.next }
+        ensures gaps { self.new.gaps ≡ self.old.gaps }
         ensures grows { Grows self.old.store self.new.store }
     {
         let top = self.frames.len() - 1;
@@ -468,6 +496,7 @@ impl<'a> FramePath<'a> {
         ensures ok { OnOk result (path_of self.new
             ≡ settled_at (place_of place) (node_of self.old.store node) (path_of self.old)) }
         ensures next { self.new.next ≡ self.old.next }
+        ensures whole { self.old.gaps.marks.items ≡ [] → self.new.gaps.marks.items ≡ [] }
         ensures grows { Grows self.old.store self.new.store }
     {
         match place {
@@ -485,15 +514,18 @@ impl<'a> FramePath<'a> {
         ensures path { path_of self.old ≡ frame_of self.old.store result ∷ path_of self.new }
         ensures within { IsTrue (is_frame self.new result) }
         ensures frames { self.new.frames.items
-            ≡ take (length self.old.frames.items - 1) self.old.frames.items }
+            ≡ take (length self.new.frames.items) self.old.frames.items }
+        ensures shorter { length self.new.frames.items < length self.old.frames.items }
+        ensures whole { self.old.gaps.marks.items ≡ [] → self.new.gaps.marks.items ≡ [] }
         ensures store { self.new.store ≡ self.old.store }
         ensures next { self.new.next ≡ self.old.next }
     {
         let last = self.frames.len() - 1;
         let frame = self.frames[last];
-        self.scopes.cut(last);
-        self.placed = self.placed.min(last);
-        self.frames.truncate(last);
+        let left = self.gaps.cut(last);
+        self.scopes.cut(left);
+        self.placed = self.placed.min(left);
+        self.frames.truncate(left);
         frame
     }
 
@@ -506,6 +538,7 @@ impl<'a> FramePath<'a> {
         ensures within { IfOk result (λ node. IsTrue (is_node self.new.store node)) }
         ensures frames { frames_of self.new ≡ frames_of self.old }
         ensures next { self.new.next ≡ self.old.next }
+        ensures gaps { self.new.gaps ≡ self.old.gaps }
         ensures grows { Grows self.old.store self.new.store }
     {
         // What is handed on is a copy: so a frame that has children alone need not be in memory.
@@ -533,6 +566,7 @@ impl<'a> FramePath<'a> {
         ensures within { IfOk result (λ node. IsTrue (is_node self.new.store node)) }
         ensures frames { frames_of self.new ≡ frames_of self.old }
         ensures next { self.new.next ≡ self.old.next }
+        ensures gaps { self.new.gaps ≡ self.old.gaps }
         ensures grows { Grows self.old.store self.new.store }
     {
         let frame = self.folded(frame)?;
@@ -554,6 +588,7 @@ impl<'a> FramePath<'a> {
     pub(crate) fn settle_top(&mut self) -> Result<(), GrowError>
         ensures ok { OnOk result (path_of self.new ≡ top_settled (path_of self.old)) }
         ensures next { self.new.next ≡ self.old.next }
+        ensures whole { self.old.gaps.marks.items ≡ [] → self.new.gaps.marks.items ≡ [] }
         ensures grows { Grows self.old.store self.new.store }
     {
         if self.frames.len() < 2 {
@@ -569,6 +604,7 @@ impl<'a> FramePath<'a> {
     fn settle_next(&mut self) -> Result<(), GrowError>
         ensures ok { OnOk result (path_of self.new ≡ top_settled (path_of self.old)) }
         ensures next { self.new.next ≡ self.old.next }
+        ensures whole { self.old.gaps.marks.items ≡ [] → self.new.gaps.marks.items ≡ [] }
         ensures grows { Grows self.old.store self.new.store }
     {
         self.settle_top()
@@ -603,6 +639,7 @@ impl<'a> FramePath<'a> {
         ensures ok { OnOk result (path_of self.new
             ≡ popped_while (test_or_other is_other test.entry) (path_of self.old)) }
         ensures next { self.new.next ≡ self.old.next }
+        ensures whole { self.old.gaps.marks.items ≡ [] → self.new.gaps.marks.items ≡ [] }
         ensures grows { Grows self.old.store self.new.store }
     {
         while self.is_settled(test, is_other) {
@@ -656,11 +693,12 @@ impl<'a> FramePath<'a> {
     }
 
     // The frame at a place leaves the stack.
-    fn close(&mut self, index: usize)
+    pub(crate) fn close(&mut self, index: usize)
         requires { index < length self.old.frames.items }
         ensures frames { frames_of self.new ≡ changed index closed (frames_of self.old) }
         ensures store { self.new.store ≡ self.old.store }
         ensures next { self.new.next ≡ self.old.next }
+        ensures gaps { self.new.gaps ≡ self.old.gaps }
     {
         let frame = self.frames[index];
         self.write(
@@ -722,6 +760,7 @@ impl<'a> FramePath<'a> {
         ensures frames { self.new.frames.items ≡ self.old.frames.items }
         ensures store { self.new.store ≡ self.old.store }
         ensures next { self.new.next ≡ self.old.next }
+        ensures gaps { self.new.gaps ≡ self.old.gaps }
     {
         while self.scopes.len() < self.frames.len() {
             let entered = self.entered_at(self.scopes.len());
@@ -736,6 +775,7 @@ impl<'a> FramePath<'a> {
         ensures frames { self.new.frames.items ≡ self.old.frames.items }
         ensures store { self.new.store ≡ self.old.store }
         ensures next { self.new.next ≡ self.old.next }
+        ensures gaps { self.new.gaps ≡ self.old.gaps }
     {
         if self.frames.len() <= FEW {
             return Ok(());
@@ -831,6 +871,7 @@ impl<'a> FramePath<'a> {
         requires { self.old.next + 1 < 2 ^ 32 }
         ensures frames { frames_of self.new ≡ frames_of self.old }
         ensures next { self.new.next ≡ self.old.next + 1 }
+        ensures gaps { self.new.gaps ≡ self.old.gaps }
         ensures store { self.new.store ≡ self.old.store }
     {
         self.next += 1;
@@ -892,23 +933,44 @@ impl<'a> FramePath<'a> {
         false
     }
 
+    // The place of the frame around the one at a place.
+    pub(crate) fn around(&self, index: usize) -> Option<usize>
+        requires { index ≤ length self.now.frames.items }
+        ensures within { IfSome result (λ place. place < index) }
+        ensures stands { IfSome result
+            (λ place. slice_index_or self.now.gaps.marks.items place false ≡ false) }
+        ensures gone { IfSome result (λ place. (n : ℕ) → place < n → n < index →
+            slice_index_or self.now.gaps.marks.items n false ≡ true) }
+        ensures some { IfSome result
+            (λ place. around self.now index ≡ frame_at self.now place ∷ around self.now place) }
+        ensures none { result ≡ None → around self.now index ≡ [] }
+    {
+        let mut left = index;
+        while left > 0 {
+            left -= 1;
+            if !self.gaps.has(left) {
+                return Some(left);
+            }
+        }
+        None
+    }
+
     // The number of the frame around the one at a place; around the outermost none is.
     fn number_around(&self, index: usize) -> u32
         requires { index < length self.now.frames.items }
-        ensures { result ≡ (top (reverse (take index (frames_of self.now)))).number }
+        ensures { result ≡ (top (around self.now index)).number }
     {
-        if index == 0 {
-            return 0;
+        match self.around(index) {
+            Some(place) => self.frames[place].number,
+            None => 0,
         }
-        let frame = self.frames[index - 1];
-        frame.number
     }
 
     // The place of an element, with the frame around it.
     fn place_around(&self, index: usize, place: Place) -> Place
         requires { index < length self.now.frames.items }
         ensures { place_of result
-            ≡ dom.place_of (place_of place) (reverse (take index (frames_of self.now))) }
+            ≡ dom.place_of (place_of place) (around self.now index) }
     {
         match place {
             Place::Here => Place::Into(self.number_around(index)),

@@ -4,18 +4,22 @@
 //! and which number is next.
 ghost use Rattle.std.specs.List.{insert, list_all, list_any};
 ghost use Rattle.std.specs.Option.{unwrap_or};
-ghost use Rattle.std.specs.Prelude.{IfOk, IfSome, IsTrue, None, OnOk, drop, false, if◌then◌else◌, length, map, min, reverse, take, true, ℕ, ◌++◌, ◌+◌, ◌<◌, ◌==◌, ◌^◌, ◌≡◌, ◌≤◌};
-ghost use Rattle.tl_dom_spec.specs.Adoption.{first, moved_place, outermost, outside_of};
-ghost use Rattle.tl_dom_spec.specs.Path.{elements, here, popped_while};
+ghost use Rattle.std.specs.Prelude.{IfOk, IfSome, IsTrue, None, OnOk, Some, [], drop, false, if◌then◌else◌, length, map, min, reverse, slice_index_or, slice_set, take, true, ℕ, ◌++◌, ◌+◌, ◌<◌, ◌==◌, ◌^◌, ◌≡◌, ◌≢◌, ◌≤◌};
+ghost use Rattle.tl_dom_spec.specs.Adoption.{first, inside_of, moved_place, outermost, outside_of};
+ghost use Rattle.tl_dom_spec.specs.Path.{elements, here, popped_while, top, top_settled};
 ghost use Rattle.tl_dom_spec.specs.Tags.{is_special};
-ghost use Rattle.tl_tree.specs.Inner.Adopted.{IsNear, emptied, filled, frame_at, frame_found, innermost_number, is_block, is_inside, moved, number_of, placed, renewed, renewed_near, with_outer};
+ghost use Rattle.tl_tree.specs.Inner.Active.{active_of};
+ghost use Rattle.tl_tree.specs.Inner.Adopted.{IsNear, emptied, filled, frame_at, frame_found, innermost_number, is_block, is_inside, is_listed_between, moved, number_of, placed, renewed, renewed_over, shape, with_outer};
 ghost use Rattle.tl_tree.specs.Inner.Entered.{entered, turned};
 ghost use Rattle.tl_tree.specs.Inner.Framed.{are_distinct, goes_here, is_before, is_here};
-ghost use Rattle.tl_tree.specs.Inner.Frames.{changed, frame_of, frames_of, is_frame, path_of, place_of};
+ghost use Rattle.tl_tree.specs.Inner.Frames.{around, changed, frame_of, frames_of, is_frame, path_of, place_of};
+ghost use Rattle.tl_tree.specs.Inner.Gone.{there};
 ghost use Rattle.tl_tree.specs.Inner.Roles.{is_numbered};
 ghost use Rattle.tl_tree.specs.Inner.Store.{Grows, is_tag_number, tag_at};
 ghost use Rattle.tl_tree.specs.Inner.Tests.{tag_test_of};
+ghost use Rattle.tl_tree.specs.declared.store.Store.{Store};
 
+use crate::active::ActiveList;
 use crate::error::GrowError;
 use crate::frame::{Frame, Place};
 use crate::path::FramePath;
@@ -131,6 +135,7 @@ impl<'a> FramePath<'a> {
     /// The place of the furthest block: the outermost special element inside of the one of a
     /// number.
     pub(crate) fn furthest_block(&self, number: u32, counts_search: bool) -> Option<usize>
+        ensures open { IfSome result (λ index. (frame_at self.now index).is_open ≡ true) }
         ensures stands { frame_found self.now result
             ≡ outermost (is_special counts_search) number None (elements (path_of self.now)) }
         ensures within { IfSome result
@@ -163,6 +168,7 @@ impl<'a> FramePath<'a> {
 
     /// The number of the common ancestor: the element of the stack around the one of a number.
     pub(crate) fn common_ancestor(&self, number: u32) -> Option<u32>
+        requires { self.now.gaps.marks.items ≡ [] }
         ensures { result ≡ number_of (first (elements (outside_of number (path_of self.now)))) }
     {
         match self.find(number) {
@@ -171,42 +177,116 @@ impl<'a> FramePath<'a> {
         }
     }
 
-    /// The place of the common ancestor, where the formatting element stands right inside of it and
-    /// goes there, the block right inside of that, and what goes there isn't foster parented.
-    pub(crate) fn near_ancestor(
+    // Whether the frame at a place is gone, or goes to what is right around it and isn't listed.
+    fn is_passed(&self, active: &ActiveList, place: usize) -> bool
+        requires { place < length self.now.frames.items }
+        ensures here { result ≡ true
+            → slice_index_or self.now.gaps.marks.items place false ≡ false
+            → (frame_at self.now place).place ≡ here }
+        ensures listed { (s : Store) (k : ℕ) → result ≡ true
+            → (slice_index_or self.now.gaps.marks.items place false ≡ false
+            → (frame_at self.now place).number ≢ k)
+            → is_listed_between (active_of s active.now) k self.now (place + 1)
+            ≡ is_listed_between (active_of s active.now) k self.now place }
+    {
+        if self.gaps.has(place) {
+            return true;
+        }
+        let frame = self.frames[place];
+        if !frame.place.is_here() {
+            return false;
+        }
+        if !frame.is_open {
+            return true;
+        }
+        !active.is_listed(frame.number)
+    }
+
+    // Whether the frame of a number stands at a place, and is there.
+    fn is_own(&self, place: usize, number: u32) -> bool
+        requires { place < length self.now.frames.items }
+        ensures stands { result ≡ true
+            → slice_index_or self.now.gaps.marks.items place false ≡ false }
+        ensures own { result ≡ true → (frame_at self.now place).number ≡ number }
+        ensures other { result ≡ false
+            → slice_index_or self.now.gaps.marks.items place false ≡ false
+            → (frame_at self.now place).number ≢ number }
+    {
+        if self.gaps.has(place) {
+            return false;
+        }
+        if self.frames[place].number == number {
+            return true;
+        }
+        false
+    }
+
+    /// The place of the common ancestor, where all from the formatting element to the block goes to
+    /// what is right around it, nothing of it is made anew, and what goes to the common ancestor
+    /// isn't foster parented.
+    pub(crate) fn ancestor_over(
         &self,
+        active: &ActiveList,
         block: usize,
         number: u32,
         is_fostering: bool,
     ) -> Option<usize>
         requires { block < length self.now.frames.items }
+        ensures within { IfSome result (λ place. place + 1 < block) }
         ensures near { IfSome result
             (λ place. IsNear is_fostering number (frame_at self.now place)
             (frame_at self.now (place + 1))) }
-        ensures within { IfSome result (λ place. block ≡ place + 2) }
+        ensures stands { IfSome result (λ place.
+            slice_index_or self.now.gaps.marks.items (place + 1) false ≡ false) }
+        ensures between { IfSome result (λ place. (n : ℕ) → place < n → n < block →
+            slice_index_or self.now.gaps.marks.items n false ≡ false →
+            (frame_at self.now n).place ≡ here) }
+        ensures unlisted { (s : Store) → IfSome result (λ place.
+            is_listed_between (active_of s active.now) number self.now block ≡ false) }
     {
-        if block < 2 {
-            return None;
+        let mut left = block;
+        while left > 1 {
+            left -= 1;
+            if self.is_own(left, number) {
+                return self.own_ancestor(left, is_fostering);
+            }
+            if !self.is_passed(active, left) {
+                return None;
+            }
         }
-        let place = block - 2;
-        let own = self.frames[place + 1];
-        if own.number != number {
-            return None;
-        }
+        None
+    }
+
+    // The place right outside of a frame that goes there, where an element stands there and what
+    // goes into it isn't foster parented.
+    fn own_ancestor(&self, place: usize, is_fostering: bool) -> Option<usize>
+        requires some { 0 < place }
+        requires within { place < length self.now.frames.items }
+        ensures outside { IfSome result (λ around. place ≡ around + 1) }
+        ensures near { IfSome result (λ around.
+            IsNear is_fostering (frame_at self.now place).number (frame_at self.now around)
+            (frame_at self.now place)) }
+    {
+        let own = self.frames[place];
         if !own.place.is_here() {
             return None;
         }
-        let around = self.frames[place];
+        let around = self.frames[place - 1];
         if self.is_fostered(around, is_fostering) {
             return None;
         }
-        if around.is_open { Some(place) } else { None }
+        if around.is_open {
+            Some(place - 1)
+        } else {
+            None
+        }
     }
 
     // What is put in
 
     /// A new element that has what is in a frame is put on the path, with so many outside of it.
     pub(crate) fn insert_frame(&mut self, place: usize, frame: Frame) -> Result<(), GrowError>
+        requires whole { self.old.gaps.marks.items ≡ [] }
         requires place { place ≤ length self.old.frames.items }
         requires within { IsTrue (is_frame self.old frame) }
         ensures frames { OnOk result (frames_of self.new
@@ -217,6 +297,7 @@ impl<'a> FramePath<'a> {
             (length self.new.frames.items ≡ length self.old.frames.items + 1) }
         ensures next { OnOk result (self.new.next ≡ self.old.next + 1) }
         ensures more { self.old.next ≤ self.new.next }
+        ensures gaps { self.new.gaps ≡ self.old.gaps }
         ensures store { self.new.store ≡ self.old.store }
     {
         let number = self.next;
@@ -244,6 +325,7 @@ impl<'a> FramePath<'a> {
         ensures frames { frames_of self.new ≡ changed index emptied (frames_of self.old) }
         ensures len { length self.new.frames.items ≡ length self.old.frames.items }
         ensures next { self.new.next ≡ self.old.next }
+        ensures gaps { self.new.gaps ≡ self.old.gaps }
         ensures store { self.new.store ≡ self.old.store }
     {
         let frame = self.frames[index];
@@ -265,6 +347,7 @@ impl<'a> FramePath<'a> {
         ensures frames { frames_of self.new
             ≡ changed index (placed (place_of place)) (frames_of self.old) }
         ensures next { self.new.next ≡ self.old.next }
+        ensures gaps { self.new.gaps ≡ self.old.gaps }
         ensures store { self.new.store ≡ self.old.store }
     {
         let frame = self.frames[index];
@@ -277,6 +360,7 @@ impl<'a> FramePath<'a> {
         ensures frames { frames_of self.new ≡ changed index (moved block new) (frames_of self.old) }
         ensures len { length self.new.frames.items ≡ length self.old.frames.items }
         ensures next { self.new.next ≡ self.old.next }
+        ensures gaps { self.new.gaps ≡ self.old.gaps }
         ensures store { self.new.store ≡ self.old.store }
     {
         let frame = self.frames[index];
@@ -301,6 +385,7 @@ impl<'a> FramePath<'a> {
             ++ map (moved block new) (drop start (frames_of self.old)) }
         ensures len { length self.new.frames.items ≡ length self.old.frames.items }
         ensures next { self.new.next ≡ self.old.next }
+        ensures gaps { self.new.gaps ≡ self.old.gaps }
         ensures store { self.new.store ≡ self.old.store }
     {
         let mut index = start;
@@ -312,6 +397,7 @@ impl<'a> FramePath<'a> {
 
     /// A new element has what is in the block, which has that element instead.
     pub(crate) fn renew(&mut self, index: usize, tag: u32) -> Result<(), GrowError>
+        requires whole { self.old.gaps.marks.items ≡ [] }
         requires index { index < length self.old.frames.items }
         requires tag { IsTrue (is_tag_number self.old.store tag) }
         ensures frames { OnOk result (frames_of self.new
@@ -322,6 +408,7 @@ impl<'a> FramePath<'a> {
             (length self.new.frames.items ≡ length self.old.frames.items + 1) }
         ensures next { OnOk result (self.new.next ≡ self.old.next + 1) }
         ensures more { self.old.next ≤ self.new.next }
+        ensures gaps { self.new.gaps ≡ self.old.gaps }
         ensures store { self.new.store ≡ self.old.store }
     {
         let block = self.frames[index];
@@ -335,8 +422,11 @@ impl<'a> FramePath<'a> {
     // The block takes the place of the frame around it, and a new element has what is in the block,
     // which has that element instead.
     fn turn(&mut self, index: usize, tag: u32) -> Result<(), GrowError>
+        requires some { 0 < index }
         requires index { index + 1 < length self.old.frames.items }
         requires tag { IsTrue (is_tag_number self.old.store tag) }
+        ensures gaps { OnOk result (self.new.gaps.marks.items
+            ≡ slice_set (slice_set self.old.gaps.marks.items (index + 1) false) index false) }
         ensures frames { OnOk result (frames_of self.new
             ≡ take index (frames_of self.old)
             ++ renewed self.old.next (tag_at self.old.store tag)
@@ -353,6 +443,8 @@ impl<'a> FramePath<'a> {
         let block = self.frames[index + 1];
         self.next = number + 1;
         self.scopes.turn_known(index, Entered { number, role });
+        self.gaps.stand(index + 1);
+        self.gaps.stand(index);
         self.frames[index + 1] = Frame {
             number,
             tag,
@@ -373,23 +465,170 @@ impl<'a> FramePath<'a> {
 
     // What is settled
 
-    /// The formatting element right inside of a place is settled there, and a new element has what
-    /// is in the block, which stands right inside of it. No other frame is touched.
-    pub(crate) fn renew_near(&mut self, place: usize, tag: u32) -> Result<(), GrowError>
-        requires within { place + 2 < length self.old.frames.items }
+    // A frame that is there is settled in the one around it, and its place is kept.
+    fn settle_in_place(&mut self, place: usize) -> Result<(), GrowError>
+        requires some { 0 < place }
+        requires within { place + 1 < length self.old.frames.items }
+        requires stands { slice_index_or self.old.gaps.marks.items place false ≡ false }
+        requires here { (frame_at self.old place).place ≡ here }
+        ensures path { OnOk result (around self.new place
+            ≡ top_settled (around self.old (place + 1))) }
+        ensures gone { OnOk result ((n : ℕ) →
+            slice_index_or self.new.gaps.marks.items n false
+            ≡ (if n == place then true else slice_index_or self.old.gaps.marks.items n false)) }
+        ensures marks { OnOk result
+            (drop (place + 1) self.new.gaps.marks.items
+            ≡ drop (place + 1) self.old.gaps.marks.items) }
+        ensures behind { OnOk result
+            (drop (place + 1) (frames_of self.new) ≡ drop (place + 1) (frames_of self.old)) }
+        ensures shapes { OnOk result ((n : ℕ) → n < place →
+            shape (frame_at self.new n) ≡ shape (frame_at self.old n)) }
+        ensures len { OnOk result
+            (length self.new.frames.items ≡ length self.old.frames.items) }
+        ensures next { self.new.next ≡ self.old.next }
+        ensures grows { Grows self.old.store self.new.store }
+    {
+        let Some(around) = self.around(place) else {
+            return Ok(());
+        };
+        let own = self.frames[place];
+        let node = self.element(own)?;
+        self.put_inside(around, node)?;
+        self.catch_up(around)?;
+        self.close(place);
+        self.gaps.leave(place)?;
+        Ok(())
+    }
+
+    // All between two places is settled in what stands at the outer one.
+    fn settle_between(&mut self, place: usize, block: usize) -> Result<(), GrowError>
+        requires order { place + 1 < block }
+        requires within { block < length self.old.frames.items }
+        requires around { (frame_at self.old place).is_open ≡ true }
+        requires here { (n : ℕ) → place < n → n < block →
+            slice_index_or self.old.gaps.marks.items n false ≡ false →
+            (frame_at self.old n).place ≡ here }
+        ensures path { OnOk result (around self.new (place + 1)
+            ≡ popped_while (is_inside (Some (frame_at self.old place).number))
+            (around self.old block)) }
+        ensures gone { OnOk result ((n : ℕ) → place < n → n < block →
+            slice_index_or self.new.gaps.marks.items n false ≡ true) }
+        ensures marks { OnOk result
+            (drop block self.new.gaps.marks.items ≡ drop block self.old.gaps.marks.items) }
+        ensures behind { OnOk result
+            (drop block (frames_of self.new) ≡ drop block (frames_of self.old)) }
+        ensures shape { OnOk result
+            (shape (frame_at self.new place) ≡ shape (frame_at self.old place)) }
+        ensures len { OnOk result
+            (length self.new.frames.items ≡ length self.old.frames.items) }
+        ensures next { self.new.next ≡ self.old.next }
+        ensures grows { Grows self.old.store self.new.store }
+    {
+        let mut left = block;
+        while left > place + 1 {
+            left -= 1;
+            if !self.gaps.has(left) {
+                self.settle_in_place(left)?;
+            }
+        }
+        Ok(())
+    }
+
+    /// All between two places is settled in what stands at the outer one, and a new element has
+    /// what is in the block. No frame inside of it is moved.
+    pub(crate) fn renew_over(
+        &mut self,
+        place: usize,
+        block: usize,
+        tag: u32,
+    ) -> Result<(), GrowError>
+        requires order { place + 1 < block }
+        requires within { block < length self.old.frames.items }
+        requires open { (frame_at self.old block).is_open ≡ true }
+        requires around { (frame_at self.old place).is_open ≡ true }
+        requires here { (n : ℕ) → place < n → n < block →
+            slice_index_or self.old.gaps.marks.items n false ≡ false →
+            (frame_at self.old n).place ≡ here }
         requires tag { IsTrue (is_tag_number self.old.store tag) }
-        ensures frames { OnOk result (frames_of self.new
-            ≡ renewed_near place self.old.next (tag_at self.old.store tag)
-            (frame_at self.old (place + 1)) (frames_of self.old)) }
+        ensures path { OnOk result (path_of self.new
+            ≡ renewed_over (frame_at self.old block) self.old.next (tag_at self.old.store tag)
+            (inside_of (frame_at self.old block).number (path_of self.old))
+            (popped_while (is_inside (Some (frame_at self.old place).number))
+            (around self.old block))) }
+        ensures top { OnOk result ((top (popped_while
+            (is_inside (Some (frame_at self.old place).number))
+            (around self.old block))).tag
+            ≡ (frame_at self.old place).tag) }
         ensures next { OnOk result (self.new.next ≡ self.old.next + 1) }
         ensures more { self.old.next ≤ self.new.next }
         ensures grows { Grows self.old.store self.new.store }
     {
-        let own = self.frames[place + 1];
-        let node = self.element(own)?;
-        self.put_inside(place, node)?;
-        self.catch_up(place)?;
-        self.turn(place + 1, tag)
+        self.settle_between(place, block)?;
+        self.turn(block - 1, tag)
+    }
+
+    // How many frames outside of a place are there.
+    fn place_there(&self, place: usize) -> usize
+        requires { place ≤ length self.now.frames.items }
+        ensures { result
+            ≡ length (there self.now.gaps.marks.items (take place self.now.frames.items)) }
+    {
+        let mut count: usize = 0;
+        for index in 0..place {
+            if !self.gaps.has(index) {
+                count += 1;
+            }
+        }
+        count
+    }
+
+    // The frames that are there.
+    fn frames_there(&self) -> Result<Vec<Frame>, GrowError>
+        ensures { IfOk result (λ kept. kept.items
+            ≡ there self.now.gaps.marks.items self.now.frames.items) }
+    {
+        let mut kept = Vec::new(*self.frames.allocator());
+        for index in 0..self.frames.len() {
+            if !self.gaps.has(index) {
+                kept.push(self.frames[index])?;
+            }
+        }
+        Ok(kept)
+    }
+
+    // The frames that are gone are taken out.
+    fn take_out_gone(&mut self) -> Result<(), GrowError>
+        ensures frames { OnOk result (self.new.frames.items
+            ≡ there self.old.gaps.marks.items self.old.frames.items) }
+        ensures whole { OnOk result (self.new.gaps.marks.items ≡ []) }
+        ensures next { self.new.next ≡ self.old.next }
+        ensures store { self.new.store ≡ self.old.store }
+    {
+        let kept = self.frames_there()?;
+        self.scopes.cut(0);
+        self.frames = kept;
+        self.gaps.clear();
+        Ok(())
+    }
+
+    /// The path has no gaps any more. Where the frame at a place stands then.
+    pub(crate) fn close_gaps(&mut self, place: usize) -> Result<usize, GrowError>
+        requires { place < length self.old.frames.items }
+        ensures place { IfOk result (λ new. new
+            ≡ length (there self.old.gaps.marks.items (take place self.old.frames.items))) }
+        ensures frames { OnOk result (self.new.frames.items
+            ≡ there self.old.gaps.marks.items self.old.frames.items) }
+        ensures whole { OnOk result (self.new.gaps.marks.items ≡ []) }
+        ensures next { self.new.next ≡ self.old.next }
+        ensures store { self.new.store ≡ self.old.store }
+    {
+        let new = self.place_there(place);
+        if self.gaps.count > 0 {
+            self.take_out_gone()?;
+            return Ok(new);
+        }
+        self.gaps.clear();
+        Ok(new)
     }
 
     // Frames are settled up to the one of a number, or where there is none, those that left the
@@ -397,6 +636,7 @@ impl<'a> FramePath<'a> {
     fn settle_to(&mut self, number: Option<u32>) -> Result<(), GrowError>
         ensures ok { OnOk result (path_of self.new
             ≡ popped_while (is_inside number) (path_of self.old)) }
+        ensures whole { self.old.gaps.marks.items ≡ [] → self.new.gaps.marks.items ≡ [] }
         ensures next { self.new.next ≡ self.old.next }
         ensures grows { Grows self.old.store self.new.store }
     {
@@ -408,12 +648,14 @@ impl<'a> FramePath<'a> {
 
     // The frames from a place on are taken off the path.
     fn set_aside(&mut self, place: usize) -> Result<Vec<Frame>, GrowError>
+        requires whole { self.old.gaps.marks.items ≡ [] }
         requires some { 0 < place }
         requires within { place ≤ length self.old.frames.items }
         ensures kept { OnOk result
             (self.new.frames.items ≡ take place self.old.frames.items) }
         ensures aside { IfOk result (λ aside. aside.items ≡ drop place self.old.frames.items) }
         ensures next { self.new.next ≡ self.old.next }
+        ensures gaps { self.new.gaps ≡ self.old.gaps }
         ensures store { self.new.store ≡ self.old.store }
     {
         self.scopes.cut(place);
@@ -431,6 +673,7 @@ impl<'a> FramePath<'a> {
     // Frames are put inside of those that are there. From a place among them on they go to what is
     // right around them.
     fn put_back(&mut self, aside: &[Frame], placed: usize) -> Result<(), GrowError>
+        requires whole { self.old.gaps.marks.items ≡ [] }
         requires near { IsTrue (list_all is_here (drop placed aside.now)) }
         requires small { placed < 2 ^ 63 }
         requires within { IsTrue (list_all (is_frame self.old) aside.now) }
@@ -438,6 +681,7 @@ impl<'a> FramePath<'a> {
         requires numbered { IsTrue (list_all (is_before self.old.next) aside.now) }
         ensures frames { OnOk result (self.new.frames.items ≡ self.old.frames.items ++ aside.now) }
         ensures next { self.new.next ≡ self.old.next }
+        ensures gaps { self.new.gaps ≡ self.old.gaps }
         ensures store { self.new.store ≡ self.old.store }
     {
         self.placed = self.frames.len() + placed;
@@ -453,12 +697,14 @@ impl<'a> FramePath<'a> {
         number: Option<u32>,
         is_fostering: bool,
     ) -> Result<(), GrowError>
+        requires whole { self.old.gaps.marks.items ≡ [] }
         requires some { 0 < place }
         requires within { place < length self.old.frames.items }
         ensures frames { OnOk result (frames_of self.new
             ≡ with_outer is_fostering
             (popped_while (is_inside number) (reverse (take place (frames_of self.old))))
             (drop place (frames_of self.old))) }
+        ensures whole { OnOk result (self.new.gaps.marks.items ≡ []) }
         ensures next { self.new.next ≡ self.old.next }
         ensures grows { Grows self.old.store self.new.store }
     {

@@ -22,6 +22,7 @@ impl<'a> FramePath<'a> {
             ≡ role_at self.old.store (tag_in self.old index) }
         ensures frames { frames_of self.new
             ≡ changed index (retagged (tag_at self.old.store tag)) (frames_of self.old) }
+        ensures gaps { self.new.gaps ≡ self.old.gaps }
         ensures store { self.new.store ≡ self.old.store }
         ensures next { self.new.next ≡ self.old.next }
     {

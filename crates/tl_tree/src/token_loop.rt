@@ -26,7 +26,7 @@ impl<'a> Builder<'a> {
     fn bound(&self) -> Result<usize, GrowError>
         ensures { IfOk result (λ most. most ≡ bound (builder_of self.now)) }
     {
-        let frames = self.path.frames.len();
+        let frames = self.path.frames.len() - self.path.gaps.count;
         if frames > u32::MAX as usize {
             return Err(GrowError::TooLarge);
         }

@@ -1,13 +1,14 @@
 -- The adoption agency algorithm, on frames that are kept the outermost first.
+use Rattle.std.specs.List.{list_any}
 use Rattle.std.specs.Option.{option_map}
 use Rattle.std.specs.Prelude.{Bool, List, None, Option, Some, [], drop, false, length, map, not, reverse, slice_index_or, suc, take, true, if◌then◌else◌, ℕ, ◌&&◌, ◌+◌, ◌++◌, ◌==◌, ◌≡◌, ◌∷◌}
 use Rattle.tl_dom_spec.specs.Adoption.{Clones, cloned, entry_moved, first, inside_of, moved_into, moved_place, outermost, outside_of, readopted, settled_to}
 use Rattle.tl_dom_spec.specs.Builder.{Entry}
-use Rattle.tl_dom_spec.specs.Formatting.{Listed}
+use Rattle.tl_dom_spec.specs.Formatting.{Listed, is_listed}
 use Rattle.tl_dom_spec.specs.Path.{Frame, Nodes, Path, Place, caught_up, document, elements, here, new_frame, no_nodes, node_of, on_top, place_in, with_nodes}
 use Rattle.tl_dom_spec.specs.Tags.{Tag, is_foster_target}
 use Rattle.tl_tree.specs.Inner.Active.{active_of}
-use Rattle.tl_tree.specs.Inner.Frames.{changed, frames_of, path_of}
+use Rattle.tl_tree.specs.Inner.Frames.{around, changed, frames_of, path_of}
 use Rattle.tl_tree.specs.declared.active.ActiveList.{ActiveList}
 use Rattle.tl_tree.specs.declared.path.FramePath.{FramePath}
 
@@ -66,16 +67,19 @@ renewed number tag [] = []
 renewed number tag (block ∷ inner) =
     emptied block ∷ filled number tag block ∷ map (moved block.number number) inner
 
--- what is settled in a frame, and what waited there behind it
-abbrev pub settled_in : Nodes → Frame → Frame
-settled_in nodes f = caught_up (with_nodes nodes f)
+-- without what is in it
+abbrev pub shape : Frame → Frame
+shape f = record f { children = no_nodes; waiting = no_nodes }
 
--- the formatting element is settled in the frame at a place, which is right outside of it, and the
--- block right inside of it is renewed
-abbrev pub renewed_near : ℕ → ℕ → Tag → Frame → List Frame → List Frame
-renewed_near place number tag own frames =
-    take (suc place) (changed place (settled_in (node_of own)) frames)
-    ++ renewed number tag (drop (suc (suc place)) frames)
+-- a block with what is inside of it, a new element between, and what is outside, as it is seen
+abbrev pub renewed_over : Frame → ℕ → Tag → Path → Path → Path
+renewed_over block number tag inner outer =
+    map (moved block.number number) inner ++ (filled number tag block ∷ emptied block ∷ outer)
+
+-- whether one of those is listed that are inside of the element of a number, and outside of a place
+unfoldable pub is_listed_between : List Entry → ℕ → FramePath → ℕ → Bool
+is_listed_between entries k p n =
+    list_any (λ (f : Frame). is_listed f.number entries) (elements (inside_of k (around p n)))
 
 -- the formatting element goes to what is right outside of it, and what goes there isn't foster
 -- parented

@@ -4,6 +4,7 @@ use Rattle.tl_dom_spec.specs.Dispatcher.{is_html_place}
 use Rattle.tl_dom_spec.specs.Path as dom
 use Rattle.tl_dom_spec.specs.Tags.{is_implied}
 use Rattle.tl_tree.specs.Inner.Framed.{frame_is_within}
+use Rattle.tl_tree.specs.Inner.Gone.{there}
 use Rattle.tl_tree.specs.Inner.Store.{nodes_of, tag_at}
 use Rattle.tl_tree.specs.Inner.Tests.{tag_test_of}
 use Rattle.tl_tree.specs.declared.frame.Frame.{Frame}
@@ -38,9 +39,16 @@ frame_of s f = record {
 unfoldable pub frames_of : FramePath → List dom.Frame
 frames_of p = map (frame_of p.store) p.frames.items
 
--- the innermost first, as they are seen
+-- frames without those that are gone, the innermost first, as they are seen
+abbrev pub seen : List Bool → List dom.Frame → dom.Path
+seen marks frames = reverse (there marks frames)
+
 abbrev pub path_of : FramePath → dom.Path
-path_of p = reverse (frames_of p)
+path_of p = seen p.gaps.marks.items (frames_of p)
+
+-- what is around a place
+abbrev pub around : FramePath → ℕ → dom.Path
+around p n = seen p.gaps.marks.items (take n (frames_of p))
 
 abbrev pub is_frame : FramePath → Frame → Bool
 is_frame p f = frame_is_within (length p.store.tags.items) (length p.store.cells.items) f
@@ -76,4 +84,4 @@ sought test bounds p n = dom.within test bounds (dom.elements (reverse (take n (
 
 -- where a node is foster parented, as so many of the outermost frames say
 unfoldable pub fostered : FramePath → ℕ → dom.Place
-fostered p n = dom.foster_place (reverse (take n (frames_of p)))
+fostered p n = dom.foster_place (around p n)

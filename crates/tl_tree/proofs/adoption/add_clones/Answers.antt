@@ -3,6 +3,7 @@ use Rattle.tl_dom_spec.specs.Adoption.{cloned}
 use Rattle.tl_dom_spec.specs.Path as dom
 use Rattle.tl_tree.proofs.Cloned.{between, between-other, between-own, frame-outside, made-ends, made-more}
 use Rattle.tl_tree.proofs.Furthest.{frame-there}
+use Rattle.tl_tree.proofs.Gone.{whole-by}
 use Rattle.tl_tree.specs.Inner.Active.{active_of}
 use Rattle.tl_tree.specs.Inner.Adopted.{with_element}
 use Rattle.tl_tree.specs.declared.store.Store.{Store}
@@ -53,6 +54,7 @@ loop-left-preserved c =
           (made-ends c.args.block p q _ _ _ 0 _ c.loop-left.invariant.so_far
           (ap (λ fs. cloned c.loop-left.between.seen fs (active_of q.store c.loop-left.active) q.next) is))
           (c.in_ok-between.ensures.ok (between c.args.number p n));
+      gaps = c.clone_at.ensures.gaps ∙ c.loop-left.invariant.gaps;
       store = c.clone_at.ensures.store ∙ c.loop-left.invariant.store;
       more = omega arith;
       numbered = c.clone_at.ensures.numbered;
@@ -66,3 +68,7 @@ clone_at-requires-clause-listed c =
     let tag = c.loop-left.invariant.tag in
     let many = ap (λ (s : Store). length s.tags.items) c.loop-left.invariant.store in
     omega arith
+
+pub clone_at-requires-clause-whole : goal.clone_at-requires-clause-whole
+clone_at-requires-clause-whole c =
+    whole-by c.args.path.now c.loop-left.path c.loop-left.invariant.gaps c.requires.whole

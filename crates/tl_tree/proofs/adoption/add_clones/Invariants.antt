@@ -14,6 +14,7 @@ invariant-loop-left l =
       made : l.between.made ≤ l.between.seen;
       len : length p.frames.items ≤ length l.path.frames.items;
       so_far : AreMade l.block p l.path (cloned 0 (between l.number p l.block) (active_of p.store l.fn.active) p.next) (cloned l.between.seen (between l.number p l.left) (active_of l.path.store l.active) l.path.next) 0 l.between.made;
+      gaps : l.path.gaps ≡ p.gaps;
       store : l.path.store ≡ p.store;
       more : p.next ≤ l.path.next;
       numbered : l.active.greatest_number < l.path.next;

@@ -59,7 +59,7 @@ returns-clause-ok c =
     let all = clones_in own block path entries p.next in
     let stored = c.add_clones.ensures.store in
     let whole : all ≡ record { frames = made.clones; entries = active_of q.store mid; next = q.next } =
-    ap (λ (out : Path). cloned 0 (elements (inside_of own.number out)) entries p.next) (outside-part p block.number n c.requires.block refl)
+    ap (λ (out : Path). cloned 0 (elements (inside_of own.number out)) entries p.next) (outside-part p block.number n c.requires.whole c.requires.block refl)
     ∙ made-all n p q _ (active_of q.store mid) q.next 0 m made in
     let count : m ≡ length made.clones = made.count ∙ omega arith in
     let renewed_as =
@@ -74,7 +74,7 @@ returns-clause-ok c =
     let sum = cloned-next 0 (elements (inside_of own.number (outside_of block.number path))) entries p.next in
     record {
       path =
-          path-adopted p q t c.args.is_fostering own n (n + m) q.next made.clones (active_of q.store mid) c.common_ancestor-ancestor.result (frames_of r) c.requires.block (omega arith)
+          path-adopted p q t c.args.is_fostering own n (n + m) q.next made.clones (active_of q.store mid) c.common_ancestor-ancestor.result (frames_of r) c.requires.whole c.in_ok-settle_outside.ensures.whole c.requires.block (omega arith)
           made.frames renewed_as c.in_ok-settle_outside.ensures.frames c.common_ancestor-ancestor.ensures
           ∙ ap (λ (cl : Clones). adopted_path c.args.is_fostering own block cl (outer_in own block path) path) (sym whole);
       active =

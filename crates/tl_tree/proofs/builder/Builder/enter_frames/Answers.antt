@@ -22,7 +22,7 @@ returns-clause-ok c =
     let q = c.enter_frames.new.self in
     let grows = subst (λ (s : Store). Grows b.path.store s) (sym c.enter_frames.ensures.store) (grows_refl b.path.store) in
     path-changed b q (known-kept b q grows c.enter_frames.ensures.next)
-    (path_of b.path) b.path.next grows c.enter_frames.ensures.next (same-path b.path q c.enter_frames.ensures.frames c.enter_frames.ensures.store)
+    (path_of b.path) b.path.next grows c.enter_frames.ensures.next (same-path b.path q c.enter_frames.ensures.frames c.enter_frames.ensures.store c.enter_frames.ensures.gaps)
 
 pub returns-clause-token : goal.returns-clause-token
 returns-clause-token c =

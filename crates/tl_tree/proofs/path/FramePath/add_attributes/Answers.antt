@@ -48,4 +48,4 @@ retag-requires-clause-role c =
 
 pub returns-clause-path : goal.returns-clause-path
 returns-clause-path c =
-    merged-path c.args.self.now c.add_merged_tag.new.self c.retag.new.self c.args.number c.in-Some.index c.index.result.now c.in_ok-tag.tag (tag_at c.args.self.now.store c.args.other).attributes c.add_merged_tag.ensures.grows c.add_merged_tag.ensures.frames c.in-Some.ensures.some c.index.ensures (found-there (goal.at.returns-clause-path c).In-Some) c.in_ok-tag.ensures.stands c.retag.ensures.frames
+    merged-path c.args.self.now c.add_merged_tag.new.self c.retag.new.self c.args.number c.in-Some.index c.index.result.now c.in_ok-tag.tag (tag_at c.args.self.now.store c.args.other).attributes c.add_merged_tag.ensures.grows c.add_merged_tag.ensures.frames c.in-Some.ensures.some c.index.ensures (found-there (goal.at.returns-clause-path c).In-Some) c.in_ok-tag.ensures.stands c.add_merged_tag.ensures.gaps c.retag.ensures.gaps c.retag.ensures.frames

@@ -1,7 +1,7 @@
-use Rattle.std.proofs.Common.{ap, length, refl, reverse}
+use Rattle.std.proofs.Common.{length, refl}
 use Rattle.tl_tree.proofs.Entering.{known-grown}
 use Rattle.tl_tree.proofs.Listed.{all-weaker}
-use Rattle.tl_tree.proofs.Written.{frame-more, frames-grown}
+use Rattle.tl_tree.proofs.Written.{frame-more, path-grown}
 use Rattle.tl_tree.specs.Inner.Framed.{frame_is_within}
 use Rattle.tl_tree.specs.Inner.Frames.{is_frame}
 use Rattle.tl_tree.proofs.path.FramePath.add_byte.Goals as goal
@@ -17,4 +17,4 @@ invariant_of-self-clause-known c = known-grown c.args.self.now c.put_bytes.new.s
 
 pub returns-clause-path : goal.returns-clause-path
 returns-clause-path c =
-    ap reverse (frames-grown c.args.self.now _ c.put_bytes.ensures.grows refl)
+    path-grown c.args.self.now _ c.put_bytes.ensures.grows refl refl

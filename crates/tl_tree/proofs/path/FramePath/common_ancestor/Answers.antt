@@ -14,8 +14,8 @@ returns-in-Some c =
     let within = found-within p.frames.items n c.args.number c.in-Some.ensures.some in
     c.element_outside.ensures
     ∙ (innermost-at p n
-    ∙ sym (ap (λ (path : Path). number_of (first (elements path))) (outside-part p c.args.number n within (number-found p n c.args.number c.in-Some.ensures.some))))
+    ∙ sym (ap (λ (path : Path). number_of (first (elements path))) (outside-part p c.args.number n c.requires within (number-found p n c.args.number c.in-Some.ensures.some))))
 
 pub returns-in-None : goal.returns-in-None
 returns-in-None c =
-    sym (ap (λ (path : Path). number_of (first (elements path))) (outside-none c.args.self.now c.args.number (c.in-None.ensures.none refl)))
+    sym (ap (λ (path : Path). number_of (first (elements path))) (outside-none c.args.self.now c.args.number c.requires (c.in-None.ensures.none refl)))

@@ -7,6 +7,7 @@ invariant-loop-self l = record {
   frames : l.self.frames.items ≡ l.fn.self.frames.items;
   store : l.self.store ≡ l.fn.self.store;
   next : l.self.next ≡ l.fn.self.next;
+  gaps : l.self.gaps ≡ l.fn.self.gaps;
 }
 
 abbrev pub decreases-loop-self : goal.decreases-loop-self

@@ -1,7 +1,8 @@
 use Rattle.std.proofs.Common.{ap, arith, nat_eq, true, ◌+◌, ◌∙◌, ◌≡◌}
-use Rattle.std.proofs.lemmas.Bool.{and_from}
+use Rattle.std.proofs.lemmas.Bool.{and_from, and_parts}
 use Rattle.tl_dom_spec.specs.Path as dom
 use Rattle.tl_dom_spec.specs.Tags.{is_special}
+use Rattle.tl_tree.proofs.Ancestor.{if-some-weaker}
 use Rattle.tl_tree.proofs.Begun.{furthest-absent, furthest-from, furthest-shut, number-at, other-element}
 use Rattle.tl_tree.proofs.Furthest.{frame-there}
 use Rattle.tl_tree.proofs.Numbered.{found-within}
@@ -58,3 +59,11 @@ returns-clause-stands c =
     furthest-from (is_special c.args.counts_search) k place p c.block_from.result within own
     (λ i least below. other-element k (frame_at p i) (none-at (dom.has_number k) p (place + 1) i (numbered-behind k place p c.in-Some.ensures.some) least below))
     c.block_from.ensures.within c.block_from.ensures.passes c.block_from.ensures.before
+
+pub returns-clause-open : goal.returns-clause-open
+returns-clause-open c =
+    let p = c.args.self.now in
+    let test = is_special c.args.counts_search in
+    if-some-weaker _ _ c.block_from.result
+    (λ index h. (and_parts (frame_at p index).is_open (test (frame_at p index).tag) h).0)
+    c.block_from.ensures.passes

@@ -1,4 +1,4 @@
-use Rattle.std.proofs.Common.{IsTrue, List, arith, is_ok, length, refl, ◌+◌, ◌≤◌, true, min, ◌<◌}
+use Rattle.std.proofs.Common.{Bool, IsTrue, List, arith, is_ok, length, refl, subst, sym, ◌+◌, ◌≤◌, true, min, ◌<◌}
 use Rattle.std.proofs.lemmas.Bool.{lt-ltb}
 use Rattle.std.specs.List.{insert, list_all}
 use Rattle.tl_tree.proofs.Entering.{opens-inserted}
@@ -9,6 +9,7 @@ use Rattle.tl_tree.proofs.Within.{lt-more}
 use Rattle.tl_tree.specs.Inner.Entered.{entered, entered_of}
 use Rattle.tl_tree.specs.Inner.Framed.{are_distinct, is_before}
 use Rattle.tl_tree.specs.Inner.Frames.{is_frame}
+use Rattle.tl_tree.specs.Inner.Gone.{are_shut}
 use Rattle.tl_tree.specs.declared.frame.Frame.{Frame}
 use Rattle.tl_tree.specs.declared.frame.Place.TheVariants.{Here}
 use Rattle.tl_tree.proofs.Placed.{here-inserted}
@@ -48,6 +49,10 @@ invariant_of-self-clause-some c =
     let longer = either (λ (ys : List Frame). length xs ≤ length ys) (is_ok c.insert.result) (insert xs c.args.place f) xs c.insert.new.self.items c.insert.ensures.items (insert-longer c.args.place xs f) (omega arith) in
     let some = p.some in
     omega arith
+
+pub invariant_of-self-clause-shut : goal.invariant_of-self-clause-shut
+invariant_of-self-clause-shut c =
+    subst (λ (marks : List Bool). IsTrue (are_shut marks c.insert.new.self.items)) (sym c.requires.whole) refl
 
 pub invariant_of-self-clause-known : goal.invariant_of-self-clause-known
 invariant_of-self-clause-known c =

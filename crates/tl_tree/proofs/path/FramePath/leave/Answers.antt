@@ -1,5 +1,5 @@
-use Rattle.std.proofs.Common.{ap, refl, reverse, ◌∙◌}
-use Rattle.tl_tree.proofs.Numbered.{absent-number, changed-number, found-within}
+use Rattle.std.proofs.Common.{refl}
+use Rattle.tl_tree.proofs.Numbered.{absent-number, found-within, number-changed}
 use Rattle.tl_tree.specs.Inner.Frames.{closed}
 use Rattle.tl_tree.proofs.path.FramePath.leave.Goals as goal
 
@@ -9,8 +9,7 @@ close-requires c =
 
 pub returns-in-Some-clause-path : goal.returns-in-Some-clause-path
 returns-in-Some-clause-path c =
-    ap reverse c.close.ensures.frames
-    ∙ changed-number c.args.self.now c.args.number c.in-Some.index closed c.in-Some.ensures.some
+    number-changed c.args.self.now c.close.new.self c.args.number c.in-Some.index closed c.close.ensures.gaps c.in-Some.ensures.some c.close.ensures.frames
 
 pub returns-in-None-clause-path : goal.returns-in-None-clause-path
 returns-in-None-clause-path c =

@@ -24,6 +24,7 @@ loop-self-preserved c =
           ∙ (ap (done (suc i)) c.move_place.ensures.frames
           ∙ (changed-next i change (frames_of p) (omega arith) ∙ c.loop-self.invariant.rest));
       next = c.move_place.ensures.next ∙ c.loop-self.invariant.next;
+      gaps = c.move_place.ensures.gaps ∙ c.loop-self.invariant.gaps;
       store = c.move_place.ensures.store ∙ c.loop-self.invariant.store;
     }
 

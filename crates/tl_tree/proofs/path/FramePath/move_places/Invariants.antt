@@ -10,6 +10,7 @@ invariant-loop-self l =
       len : length l.self.frames.items ≡ length l.fn.self.frames.items;
       rest : take l.index (frames_of l.self) ++ map change (drop l.index (frames_of l.self)) ≡ take l.start (frames_of l.fn.self) ++ map change (drop l.start (frames_of l.fn.self));
       next : l.self.next ≡ l.fn.self.next;
+      gaps : l.self.gaps ≡ l.fn.self.gaps;
       store : l.self.store ≡ l.fn.self.store;
     }
 

@@ -1,7 +1,10 @@
-use Rattle.std.proofs.Common.{[], arith, is_ok, ◌+◌, ◌∙◌, ◌∷◌, false, ◌<◌, ◌≡◌}
+use Rattle.std.proofs.Common.{[], IsTrue, List, arith, is_ok, ◌+◌, ◌++◌, ◌∙◌, ◌∷◌, false, ◌<◌, ◌≡◌}
 use Rattle.std.proofs.lemmas.Bool.{lt-ltb, ltb-true}
 use Rattle.tl_tree.proofs.Entering.{opens-pushed}
+use Rattle.tl_tree.proofs.Gone.{shut-push}
 use Rattle.tl_tree.proofs.Inserted.{pushed-ok}
+use Rattle.tl_tree.proofs.Numbers.{either}
+use Rattle.tl_tree.specs.Inner.Gone.{are_shut}
 use Rattle.tl_tree.proofs.Listed.{all-pushed, all-weaker, appended-longer}
 use Rattle.tl_tree.proofs.Numbered.{distinct-pushed}
 use Rattle.tl_tree.proofs.Within.{lt-more}
@@ -49,9 +52,19 @@ invariant_of-self-clause-known c =
     let f : Frame = record { number = p.next; tag = c.args.tag; children = 0; late = 0; waiting = 0; place = c.args.place; is_open = true } in
     opens-pushed (entered_of p.store) (is_ok c.push.result) p.frames.items c.push.new.self.items f (entered p.scopes) c.push.ensures.items p.known
 
+pub invariant_of-self-clause-shut : goal.invariant_of-self-clause-shut
+invariant_of-self-clause-shut c =
+    let p = c.args.self.now in
+    let marks = p.gaps.marks.items in
+    let xs = p.frames.items in
+    let f : Frame = record { number = p.next; tag = c.args.tag; children = 0; late = 0; waiting = 0; place = c.args.place; is_open = true } in
+    let some = p.some in
+    either (λ (ys : List Frame). IsTrue (are_shut marks ys)) (is_ok c.push.result) (xs ++ f ∷ []) xs c.push.new.self.items c.push.ensures.items
+    (shut-push marks xs (f ∷ []) (omega arith) p.shut) p.shut
+
 pub returns-clause-ok : goal.returns-clause-ok
 returns-clause-ok c =
-    pushed-ok c.enter_frames.result c.args.self.now c.enter_frames.new.self c.args.self.now.next c.args.tag c.args.place (c.enter_frames.ensures.frames ∙ c.in_ok-push.ensures.items) c.enter_frames.ensures.store
+    pushed-ok c.enter_frames.result c.args.self.now c.enter_frames.new.self c.args.self.now.next c.args.tag c.args.place (c.enter_frames.ensures.frames ∙ c.in_ok-push.ensures.items) c.enter_frames.ensures.store c.enter_frames.ensures.gaps
 
 pub invariant_of-self-clause-near : goal.invariant_of-self-clause-near
 invariant_of-self-clause-near c =

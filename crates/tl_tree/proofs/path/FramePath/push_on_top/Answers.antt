@@ -15,5 +15,5 @@ returns-clause-ok c =
     let n = c.len-top.result - 1 in
     let long : length p.frames.items ≡ suc n = omega arith in
     on_ok_weaker c.push.result
-    (pushed-on-top p c.catch_up.new.self c.push.new.self n p.next c.args.tag c.catch_up.ensures.grows c.requires long c.catch_up.ensures.next c.in_ok-catch_up.ensures.ok)
+    (pushed-on-top p c.catch_up.new.self c.push.new.self n p.next c.args.tag c.catch_up.ensures.grows c.requires long c.catch_up.ensures.next c.catch_up.ensures.gaps c.in_ok-catch_up.ensures.ok)
     c.push.ensures.ok

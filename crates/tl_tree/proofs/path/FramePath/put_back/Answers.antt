@@ -1,10 +1,11 @@
-use Rattle.std.proofs.Common.{IsTrue, List, is_ok, arith, ◌+◌, ◌++◌}
+use Rattle.std.proofs.Common.{Bool, IsTrue, List, is_ok, arith, length, length-append, refl, subst, sym, ◌+◌, ◌++◌, ◌<◌}
 use Rattle.std.specs.List.{list_all}
 use Rattle.tl_tree.proofs.Entering.{opens-appended}
 use Rattle.tl_tree.proofs.Numbers.{all-append, either}
 use Rattle.tl_tree.specs.Inner.Entered.{entered, entered_of}
 use Rattle.tl_tree.specs.Inner.Framed.{are_distinct, is_before}
 use Rattle.tl_tree.specs.Inner.Frames.{is_frame}
+use Rattle.tl_tree.specs.Inner.Gone.{are_shut}
 use Rattle.tl_tree.specs.declared.frame.Frame.{Frame}
 use Rattle.tl_tree.proofs.Placed.{HereFrom, here-appended, here-none}
 use Rattle.tl_tree.proofs.path.FramePath.put_back.Goals as goal
@@ -30,6 +31,19 @@ invariant_of-self-clause-numbered c =
     let test = is_before p.next in
     either (λ (ys : List Frame). IsTrue (list_all test ys)) (is_ok c.extend_from_slice.result) (xs ++ c.args.aside.now) xs c.extend_from_slice.new.self.items c.extend_from_slice.ensures.items
     (all-append test xs c.args.aside.now p.numbered c.requires.numbered) p.numbered
+
+pub invariant_of-self-clause-some : goal.invariant_of-self-clause-some
+invariant_of-self-clause-some c =
+    let p = c.args.self.now in
+    let xs = p.frames.items in
+    let many = length-append xs c.args.aside.now in
+    let some = p.some in
+    either (λ (ys : List Frame). length p.gaps.marks.items < length ys) (is_ok c.extend_from_slice.result) (xs ++ c.args.aside.now) xs c.extend_from_slice.new.self.items c.extend_from_slice.ensures.items
+    (omega arith) p.some
+
+pub invariant_of-self-clause-shut : goal.invariant_of-self-clause-shut
+invariant_of-self-clause-shut c =
+    subst (λ (marks : List Bool). IsTrue (are_shut marks c.extend_from_slice.new.self.items)) (sym c.requires.whole) refl
 
 pub invariant_of-self-clause-known : goal.invariant_of-self-clause-known
 invariant_of-self-clause-known c =

@@ -1,7 +1,7 @@
-use Rattle.std.proofs.Common.{ap, refl, reverse, ◌∙◌}
+use Rattle.std.proofs.Common.{refl}
 use Rattle.std.proofs.lemmas.Result.{on_ok_weaker}
 use Rattle.tl_dom_spec.specs.Path.{with_waiting}
-use Rattle.tl_tree.proofs.Numbered.{absent-number, changed-number, found-within}
+use Rattle.tl_tree.proofs.Numbered.{absent-number, found-within, number-changed}
 use Rattle.tl_tree.specs.Inner.Store.{node_of}
 use Rattle.tl_tree.proofs.path.FramePath.put_behind.Goals as goal
 
@@ -13,7 +13,7 @@ pub returns-in-Some-clause-ok : goal.returns-in-Some-clause-ok
 returns-in-Some-clause-ok c =
     let p = c.args.self.now in
     on_ok_weaker c.put_waiting.result
-    (λ e. ap reverse e ∙ changed-number p c.args.number c.in-Some.index (with_waiting (node_of p.store c.args.node)) c.in-Some.ensures.some)
+    (number-changed p c.put_waiting.new.self c.args.number c.in-Some.index (with_waiting (node_of p.store c.args.node)) c.put_waiting.ensures.gaps c.in-Some.ensures.some)
     c.put_waiting.ensures.ok
 
 pub returns-in-None-clause-ok : goal.returns-in-None-clause-ok

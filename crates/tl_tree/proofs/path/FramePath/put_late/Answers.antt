@@ -12,5 +12,5 @@ returns-clause-ok c =
     let n = c.len-top.result - 1 in
     let long : length p.frames.items ≡ suc n = omega arith in
     on_ok_weaker c.put_at_head.result
-    (put-late p c.put_at_head.new.self n (node_of p.store c.args.node) long)
+    (put-late p c.put_at_head.new.self n (node_of p.store c.args.node) long c.put_at_head.ensures.gaps)
     c.put_at_head.ensures.ok

@@ -12,7 +12,7 @@ returns-clause-ok c =
     let n = c.len-top.result - 1 in
     let long : length p.frames.items ≡ suc n = omega arith in
     on_ok_weaker c.put_inside.result
-    (put-on-top p c.catch_up.new.self c.put_inside.new.self n c.args.node c.catch_up.ensures.grows c.requires long c.in_ok-catch_up.ensures.ok)
+    (put-on-top p c.catch_up.new.self c.put_inside.new.self n c.args.node c.catch_up.ensures.grows c.requires long (c.put_inside.ensures.gaps ∙ c.catch_up.ensures.gaps) c.in_ok-catch_up.ensures.ok)
     c.put_inside.ensures.ok
 
 pub put_inside-requires-clause-node : goal.put_inside-requires-clause-node

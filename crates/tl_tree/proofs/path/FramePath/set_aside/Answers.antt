@@ -1,4 +1,4 @@
-use Rattle.std.proofs.Common.{IsTrue, List, arith, length, ◌<◌}
+use Rattle.std.proofs.Common.{Bool, IsTrue, List, ap, arith, length, refl, subst, sym, ◌<◌}
 use Rattle.std.specs.List.{list_all}
 use Rattle.std.proofs.lemmas.List.{length-take-le}
 use Rattle.tl_tree.proofs.Entering.{opens-parted}
@@ -8,6 +8,7 @@ use Rattle.tl_tree.proofs.Numbers.{either-front}
 use Rattle.tl_tree.specs.Inner.Entered.{entered, entered_of}
 use Rattle.tl_tree.specs.Inner.Framed.{are_distinct, is_before}
 use Rattle.tl_tree.specs.Inner.Frames.{is_frame}
+use Rattle.tl_tree.specs.Inner.Gone.{are_shut}
 use Rattle.tl_tree.specs.declared.frame.Frame.{Frame}
 use Rattle.tl_tree.proofs.Placed.{HereFrom, here-front}
 use Rattle.tl_tree.proofs.path.FramePath.set_aside.Goals as goal
@@ -35,8 +36,13 @@ invariant_of-self-clause-some c =
     let p = c.args.self.now in
     let many = length-take-le c.args.place p.frames.items c.requires.within in
     let some = c.requires.some in
-    either-front (λ (ys : List Frame). 0 < length ys) (λ v. v.items) c.split_off.result c.args.place p.frames c.split_off.new.self c.split_off.ensures.items c.split_off.ensures.err
+    let none = ap length c.requires.whole in
+    either-front (λ (ys : List Frame). length p.gaps.marks.items < length ys) (λ v. v.items) c.split_off.result c.args.place p.frames c.split_off.new.self c.split_off.ensures.items c.split_off.ensures.err
     (omega arith) p.some
+
+pub invariant_of-self-clause-shut : goal.invariant_of-self-clause-shut
+invariant_of-self-clause-shut c =
+    subst (λ (marks : List Bool). IsTrue (are_shut marks c.split_off.new.self.items)) (sym c.requires.whole) refl
 
 pub invariant_of-self-clause-known : goal.invariant_of-self-clause-known
 invariant_of-self-clause-known c =

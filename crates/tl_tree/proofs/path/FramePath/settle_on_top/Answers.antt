@@ -1,4 +1,4 @@
-use Rattle.std.proofs.Common.{◌-◌, ◌≡◌, arith, length, suc}
+use Rattle.std.proofs.Common.{◌-◌, ◌∙◌, ◌≡◌, arith, length, suc}
 use Rattle.std.proofs.lemmas.Result.{on_ok_weaker}
 use Rattle.tl_tree.proofs.Written.{settle-on-top}
 use Rattle.tl_tree.proofs.path.FramePath.settle_on_top.Goals as goal
@@ -11,5 +11,5 @@ returns-clause-ok c =
     let n = c.len-top.result - 1 in
     let long : length p.frames.items ≡ suc n = omega arith in
     on_ok_weaker c.catch_up.result
-    (settle-on-top p c.put_inside.new.self c.catch_up.new.self n c.args.node long c.in_ok-put_inside.ensures.ok)
+    (settle-on-top p c.put_inside.new.self c.catch_up.new.self n c.args.node long (c.catch_up.ensures.gaps ∙ c.put_inside.ensures.gaps) c.in_ok-put_inside.ensures.ok)
     c.catch_up.ensures.ok

@@ -1,5 +1,6 @@
 use Rattle.std.proofs.Common.{IsTrue, List, arith, drop, subst, sym, ◌++◌, ◌∙◌, ℕ}
 use Rattle.std.specs.List.{list_all}
+use Rattle.tl_tree.proofs.Gone.{whole-by}
 use Rattle.tl_tree.proofs.Listed.{all-drop}
 use Rattle.tl_tree.proofs.Numbers.{distinct-settled}
 use Rattle.tl_tree.proofs.Outer.{aside-within, settled-outside}
@@ -18,7 +19,7 @@ put_back-requires-clause-distinct c =
     let p = c.args.self.now in
     let q = c.settle_to.new.self in
     subst (λ (frames : List Frame). IsTrue (are_distinct (q.frames.items ++ frames))) (sym (c.deref.ensures.value ∙ c.in_ok-aside.ensures.aside))
-    (distinct-settled (is_inside c.args.number) c.args.place p.frames.items c.set_aside.new.self q p.distinct c.in_ok-aside.ensures.kept c.in_ok-settle_to.ensures.ok)
+    (distinct-settled (is_inside c.args.number) c.args.place p.frames.items c.set_aside.new.self q (whole-by p c.set_aside.new.self c.set_aside.ensures.gaps c.requires.whole) (c.settle_to.ensures.whole (whole-by p c.set_aside.new.self c.set_aside.ensures.gaps c.requires.whole)) p.distinct c.in_ok-aside.ensures.kept c.in_ok-settle_to.ensures.ok)
 
 pub put_back-requires-clause-numbered : goal.put_back-requires-clause-numbered
 put_back-requires-clause-numbered c =
@@ -34,7 +35,7 @@ returns-clause-frames c =
     let p = c.args.self.now in
     let own = c.settle_to.new.self.frames.ok.0 in
     settled-outside p c.set_aside.new.self c.settle_to.new.self c.put_back.new.self c.set_place.new.self c.args.place c.len-outer.result c.deref.result.now (is_inside c.args.number) c.args.is_fostering c.place_in-target.result
-    c.in_ok-aside.ensures.kept c.set_aside.ensures.store (c.deref.ensures.value ∙ c.in_ok-aside.ensures.aside) c.in_ok-settle_to.ensures.ok c.settle_to.ensures.grows c.place_in-target.ensures (omega arith) c.in_ok-put_back.ensures.frames c.put_back.ensures.store c.set_place.ensures.frames
+    (whole-by p c.set_aside.new.self c.set_aside.ensures.gaps c.requires.whole) (c.settle_to.ensures.whole (whole-by p c.set_aside.new.self c.set_aside.ensures.gaps c.requires.whole)) c.in_ok-aside.ensures.kept c.set_aside.ensures.store (c.deref.ensures.value ∙ c.in_ok-aside.ensures.aside) c.in_ok-settle_to.ensures.ok c.settle_to.ensures.grows c.place_in-target.ensures (omega arith) c.in_ok-put_back.ensures.frames c.put_back.ensures.store c.set_place.ensures.frames
 
 pub put_back-requires-clause-near : goal.put_back-requires-clause-near
 put_back-requires-clause-near c =
@@ -46,3 +47,7 @@ put_back-requires-clause-small c =
     let own = c.args.self.now.frames.ok.0 in
     let small = c.args.self.now.frames.small in
     omega arith
+
+pub put_back-requires-clause-whole : goal.put_back-requires-clause-whole
+put_back-requires-clause-whole c =
+    c.settle_to.ensures.whole (whole-by c.args.self.now c.set_aside.new.self c.set_aside.ensures.gaps c.requires.whole)

@@ -12,5 +12,5 @@ returns-then-len-lt2-clause-ok c =
 pub returns-clause-ok : goal.returns-clause-ok
 returns-clause-ok c =
     on_ok_weaker c.settle_at.result
-    (settle-top c.args.self.now c.take_top-frame.new.self c.element.new.self c.settle_at.new.self c.take_top-frame.result c.in_ok-node.node c.take_top-frame.ensures.path c.take_top-frame.ensures.store c.in_ok-node.ensures.frames c.in_ok-node.ensures.stands)
+    (settle-top c.args.self.now c.take_top-frame.new.self c.element.new.self c.settle_at.new.self c.take_top-frame.result c.in_ok-node.node c.take_top-frame.ensures.path c.take_top-frame.ensures.store c.in_ok-node.ensures.frames c.element.ensures.gaps c.in_ok-node.ensures.stands)
     c.settle_at.ensures.ok

@@ -1,4 +1,4 @@
-use Rattle.std.proofs.Common.{◌≡◌, length}
+use Rattle.std.proofs.Common.{[], ◌≡◌, length}
 use Rattle.tl_dom_spec.specs.Path.{popped_while}
 use Rattle.tl_tree.specs.Inner.Frames.{path_of, test_or_other}
 use Rattle.tl_tree.specs.Inner.Store.{Grows}
@@ -10,8 +10,9 @@ invariant-loop-self l =
     record {
       path : popped_while test (path_of l.self) ≡ popped_while test (path_of l.fn.self);
       next : l.self.next ≡ l.fn.self.next;
+      whole : l.fn.self.gaps.marks.items ≡ [] → l.self.gaps.marks.items ≡ [];
       grows : Grows l.fn.self.store l.self.store;
     }
 
 abbrev pub decreases-loop-self : goal.decreases-loop-self
-decreases-loop-self l = length l.self.frames.items
+decreases-loop-self l = length (path_of l.self)

@@ -1,8 +1,10 @@
-use Rattle.std.proofs.Common.{IsTrue, List, ap, arith, get_or, length, map, refl, set, subst, suc, sym, true, ◌+◌, ◌<◌, ◌≡◌, ◌∙◌, ℕ, false}
+use Rattle.std.proofs.Common.{Bool, IsTrue, List, ap, arith, get_or, length, map, refl, set, subst, suc, sym, true, ◌+◌, ◌<◌, ◌≡◌, ◌∙◌, ℕ, false}
 use Rattle.std.proofs.lemmas.Bool.{lt-ltb, ltb-true, false≢true}
+use Rattle.std.proofs.lemmas.List.{length-set}
 use Rattle.std.specs.List.{list_all}
 use Rattle.tl_tree.proofs.Entering.{Opens}
 use Rattle.tl_tree.proofs.Listed.{all-weaker}
+use Rattle.tl_tree.proofs.Marks.{shut-stands}
 use Rattle.tl_tree.proofs.Readopted.{nothing-in}
 use Rattle.tl_tree.proofs.Turned.{all-two, distinct-two, known-two, next-free, set-two, turned-frames}
 use Rattle.tl_tree.proofs.Within.{lt-more}
@@ -10,8 +12,10 @@ use Rattle.tl_tree.proofs.Written.{all-at, of-parts, parts-of}
 use Rattle.tl_tree.specs.Inner.Entered.{entered, entered_of}
 use Rattle.tl_tree.specs.Inner.Framed.{are_distinct, is_before, goes_here}
 use Rattle.tl_tree.specs.Inner.Frames.{frames_of, is_frame}
+use Rattle.tl_tree.specs.Inner.Gone.{are_shut}
 use Rattle.tl_tree.specs.declared.frame.Frame.{Frame}
 use Rattle.tl_tree.specs.declared.frame.Place.TheVariants.{Here}
+use Rattle.tl_tree.specs.declared.gaps.Gaps.{Gaps}
 use Rattle.tl_tree.proofs.Placed.{here-set}
 use Rattle.tl_tree.proofs.path.FramePath.turn.Goals as goal
 
@@ -75,6 +79,42 @@ invariant_of-self-clause-known c =
     let new = entered c.turn_known.new.self in
     subst (λ (ys : List Frame). Opens new (map (entered_of p.store) ys)) (sym (set-two xs n (n + 1) x y next within))
     (known-two p n x y b c.role_at-role.result new within is refl refl c.role_at-role.ensures c.turn_known.ensures)
+
+pub invariant_of-self-clause-some : goal.invariant_of-self-clause-some
+invariant_of-self-clause-some c =
+    let p = c.args.self.now in
+    let xs = p.frames.items in
+    let ms = p.gaps.marks.items in
+    let n = c.args.index in
+    let b = c.index-block.result.now in
+    let x : Frame = record b { children = 0; late = 0; waiting = 0; place = Here } in
+    let y : Frame = record b { number = p.next; tag = c.args.tag; place = Here; is_open = true } in
+    let one = ap length c.stand.ensures in
+    let two = ap length c.stand-2.ensures in
+    let first = length-set ms (n + 1) false in
+    let second = length-set (set ms (n + 1) false) n false in
+    let own = length-set xs (n + 1) y in
+    let both = length-set (set xs (n + 1) y) n x in
+    let third = ap (λ (all : List Bool). length (set all n false)) c.stand.ensures in
+    let some = p.some in
+    omega arith
+
+pub invariant_of-self-clause-shut : goal.invariant_of-self-clause-shut
+invariant_of-self-clause-shut c =
+    let p = c.args.self.now in
+    let xs = p.frames.items in
+    let ms = p.gaps.marks.items in
+    let n = c.args.index in
+    let b = c.index-block.result.now in
+    let x : Frame = record b { children = 0; late = 0; waiting = 0; place = Here } in
+    let y : Frame = record b { number = p.next; tag = c.args.tag; place = Here; is_open = true } in
+    subst (λ (all : List Bool). IsTrue (are_shut all (set (set xs (n + 1) y) n x))) (sym (c.stand-2.ensures ∙ ap (λ (all : List Bool). set all n false) c.stand.ensures))
+    (shut-stands (set ms (n + 1) false) n (set xs (n + 1) y) x (shut-stands ms (n + 1) xs y p.shut))
+
+pub returns-clause-gaps : goal.returns-clause-gaps
+returns-clause-gaps c =
+    ap (λ (g : Gaps). g.marks.items) c.move_places.ensures.gaps
+    ∙ (c.stand-2.ensures ∙ ap (λ (all : List Bool). set all c.args.index false) c.stand.ensures)
 
 pub returns-clause-frames : goal.returns-clause-frames
 returns-clause-frames c =

@@ -1,6 +1,7 @@
 use Rattle.std.proofs.Common.{IsTrue, arith, get_or, nat_lt, refl, subst, sym, ℕ}
 use Rattle.std.proofs.lemmas.List.{length-set}
 use Rattle.tl_tree.proofs.Entering.{known-written}
+use Rattle.tl_tree.proofs.Gone.{shut-set}
 use Rattle.tl_tree.proofs.Numbered.{distinct-set}
 use Rattle.tl_tree.proofs.Written.{all-at, all-set}
 use Rattle.tl_tree.specs.Inner.Framed.{is_before}
@@ -32,6 +33,11 @@ invariant_of-self-clause-some c =
     let many = length-set p.frames.items c.args.index c.args.frame in
     let some = p.some in
     omega arith
+
+pub invariant_of-self-clause-shut : goal.invariant_of-self-clause-shut
+invariant_of-self-clause-shut c =
+    let p = c.args.self.now in
+    shut-set p.gaps.marks.items p.frames.items c.args.index c.args.frame c.requires.open p.shut
 
 pub invariant_of-self-clause-known : goal.invariant_of-self-clause-known
 invariant_of-self-clause-known c =
