@@ -1,6 +1,6 @@
 """Compares what the words of `tl` that edit a page in its own bytes make of made-up pages, most of them broken, with a plain reader.
 
-    ./x compare edits [--program FILE] [--edits N] [--seed N] [--words set,remove] [--chromium [--doms N]] [FOLDER ..]
+    ./x compare edits [--program FILE] [--edits N] [--seed N] [--words set,remove] [--chromium [--doms N]] [[--tasks] FOLDER ..]
 
 Of each page the plain reader (edit_page.py) says by the tree of the standard which elements a selector finds, where their tags stand, how
 far they go and whether they are whole so; and the model of patches (edit_model.py) what comes of the page, or why it is refused: what is
@@ -9,7 +9,8 @@ places has to be as it was; html5lib's tokenizer has to read the tokens that are
 reader does.
 
 With folders the pages in them are edited too, and html5lib's trees compared: with a key set or unset at all tags of a name, or with
-such elements gone, it has to be the tree of the page with just that done.
+such elements gone, it has to be the tree of the page with just that done. With --tasks it is ten tasks that people have, each one
+command (edit_tasks.py): links to another scheme, absolute or without parameters, classes, ids, comments, markup first in the body.
 
 With --chromium texts that hold a script are put into each place of pages of each kind, and elements renamed around such texts: none may
 run in Chromium that didn't before (edit_scripts.py). And of N made-up pages of which one element is edited what Chromium builds is
@@ -33,6 +34,7 @@ from .edit_doms import KEY, compared_doms, numbered
 from .edit_model import TAG_WORDS, asked_of, changed, form_of, joined, refusal, spliced
 from .edit_page import Page
 from .edit_scripts import FRONTS, compared_scripts
+from .edit_tasks import compared_tasks
 from .edit_trees import compared_trees
 from .end_tags import RAW
 from .html_tokenizer import lower
@@ -220,6 +222,7 @@ def main(parser, words):
     parser.add_argument("--program", metavar="FILE")
     parser.add_argument("--edits", type=int, default=10000, metavar="N")
     parser.add_argument("--words", default=",".join(WORDS))
+    parser.add_argument("--tasks", action="store_true", help="of pages of folders: tasks that people have, each one command")
     parser.add_argument("--chromium", action="store_true")
     parser.add_argument("--doms", type=int, default=5000, metavar="N", help="so many edits beside the DOM of Chromium")
     parser.add_argument("--limit", type=int, default=200, metavar="N", help="so many pages of folders at most")
@@ -240,7 +243,10 @@ def all_compared(program, given):
         if given.chromium:
             differ += compared_scripts(program, room, tally)
             differ += compared_doms(program, room, made_page, asked, given.doms, given.seed, tally)
-        differ += compared_trees(program, given.folders, given.words.split(","), given.limit, room, tally)
+        if given.tasks:
+            differ += compared_tasks(program, given.folders, given.limit, tally)
+        else:
+            differ += compared_trees(program, given.folders, given.words.split(","), given.limit, room, tally)
     for what, count in sorted(tally.items()):
         print(f"{count} {what}")
     print(f"{differ} differ")
