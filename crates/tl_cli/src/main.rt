@@ -32,6 +32,7 @@ mod task;
 mod telling;
 mod terminal;
 mod texts;
+mod unedited;
 mod unread;
 mod usage;
 mod visible;

@@ -21,9 +21,11 @@ use crate::refused::Refused;
 use crate::reports::{Answer, Report, status_of};
 use crate::task::Unmade;
 use crate::telling::{Tellings, tell_places};
+use crate::unedited::{PlacedTelling, Telling, Unedited, of_selection, of_tags};
 use crate::unread::{report_media, report_unread};
 use regex::bytes::Regex;
 use std::alloc::{AllocError, Global};
+use std::fmt;
 use std::io::ErrorKind;
 use tl_answers::{
     CommentRefusal, Edit, Edited, Meant, PartlyEdited, Refusal, edited_page, edited_partly,
@@ -315,6 +317,21 @@ fn put_partly(
     Ok(Answer::Failed(Failure::Refused))
 }
 
+// Says on standard error why an element of a page isn't edited, or else the error itself.
+fn refused_element<E: fmt::Display>(
+    rt: &HostRuntime,
+    file: &str,
+    page: &[u8],
+    own: Option<Unedited>,
+    error: &E,
+) -> Answer {
+    let Some(own) = own else {
+        return not_understood(rt, file, error);
+    };
+    let telling = Telling { page, own };
+    not_understood(rt, file, &PlacedTelling { telling })
+}
+
 // Says on standard error why a page isn't edited.
 fn refused_edit(
     rt: &HostRuntime,
@@ -324,7 +341,7 @@ fn refused_edit(
 ) -> Result<Answer, Failure> {
     match why {
         Refusal::OutOfMemory => Err(Failure::OutOfMemory),
-        Refusal::Tag(error) => Ok(not_understood(rt, file, &error)),
+        Refusal::Tag(error) => Ok(refused_element(rt, file, page, of_tags(error), &error)),
         Refusal::Element(SelectionEditError::Refused(EditError::Misread(place, cause))) => {
             let misread = Misread { page, place, cause };
             Ok(not_understood(rt, file, &misread))
@@ -333,7 +350,9 @@ fn refused_edit(
             let crossed = Crossed { page, place, at };
             Ok(not_understood(rt, file, &crossed))
         }
-        Refusal::Element(error) => Ok(not_understood(rt, file, &error)),
+        Refusal::Element(error) => {
+            Ok(refused_element(rt, file, page, of_selection(error), &error))
+        }
         Refusal::Unread(error) => unmade(rt, file, page, Unmade::from(error)),
     }
 }
