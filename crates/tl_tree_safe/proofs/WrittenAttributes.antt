@@ -5,10 +5,9 @@ use Rattle.std.specs.Prelude.{flat_map}
 use Rattle.std.proofs.lemmas.Bool.{and_parts}
 use Rattle.tl_dom_spec.specs.Tags.{Attribute}
 use Rattle.tl_html_print.specs.Serialized.{serialized_attribute}
-use Rattle.tl_safe_fit.specs.Words.{is_among}
 use Rattle.tl_tree_safe.specs.Inner.Attributes.{beside_written, is_kept_target, listed_written}
-use Rattle.tl_tree_safe.specs.Kept.{has_key, has_no_space, is_beside_mark, is_listed_attribute, kept_attribute, kept_attributes, kept_value}
-use Rattle.tl_tree_safe.specs.Lists.{ListedWords, is_listed_value, rel_key}
+use Rattle.tl_tree_safe.specs.Kept.{has_key, is_beside_mark, is_listed_attribute, kept_attribute, kept_attributes}
+use Rattle.tl_tree_safe.specs.Lists.{ListedWords, rel_key}
 
 -- one, and then those behind it
 pub first_written : (p : ListedWords) (a : Attribute) (xs : List Attribute) →
@@ -23,10 +22,6 @@ first_written p a xs = here (is_listed_attribute p (kept_attribute p a))
 -- and nothing is written of another
 pub unlisted : (p : ListedWords) (a : Attribute) (before : List ℕ) → is_listed_attribute p a ≡ false → before ≡ before ++ listed_written p a
 unlisted p a before h = sym (append-nil before) ∙ ap (λ v. before ++ (if v then serialized_attribute a else [])) (sym h)
-
--- nor of what stays of one whose key isn't listed
-pub unlisted_key : (p : ListedWords) (a : Attribute) (before : List ℕ) → (has_no_space a.space && is_among p.keys a.key) ≡ false → before ≡ before ++ listed_written p (kept_attribute p a)
-unlisted_key p a before h = unlisted p (kept_attribute p a) before (ap (λ v. v && is_listed_value p a.key (kept_value p a.key a.value)) h)
 
 -- where one more is written
 pub attribute_step : (p : ListedWords) (all before now : List ℕ) (left : List Attribute) (a : Attribute) (more : List Attribute) →

@@ -88,10 +88,6 @@ pub(crate) fn write_attribute(
         (listed_words lists.now)
         (kept_attribute (listed_words lists.now) (attribute_said attribute.now))) }
 {
-    // Most of those that go have a key that isn't listed: nothing is made of their values.
-    if !is_listed_key(lists, attribute) {
-        return Ok(());
-    }
     if stays_whole(lists, attribute.key, attribute.value) {
         return write_listed(lists, attribute, attribute.value, out);
     }

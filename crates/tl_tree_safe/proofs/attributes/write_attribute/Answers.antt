@@ -1,7 +1,6 @@
 use Rattle.std.proofs.Common.{List, OnOk, subst, sym, ◌++◌, ◌∙◌, ◌≡◌, ℕ}
 use Rattle.tl_tree.specs.Asked.{attribute_said}
 use Rattle.tl_tree_safe.proofs.KeptValues.{whole_value}
-use Rattle.tl_tree_safe.proofs.WrittenAttributes.{unlisted_key}
 use Rattle.tl_tree_safe.specs.Inner.Attributes.{listed_written, with_value}
 use Rattle.tl_tree_safe.specs.Policies.{listed_words}
 use Rattle.tl_tree_safe.proofs.attributes.write_attribute.Goals as goal
@@ -13,7 +12,3 @@ returns-then-stays_whole c =
     (λ (s : List ℕ). OnOk c.write_listed.result (c.write_listed.new.out.items ≡ c.args.out.now.items ++ listed_written (listed_words c.args.lists.now) (with_value a s)))
     (sym (whole_value (listed_words c.args.lists.now) a.key a.value (sym c.stays_whole.ensures ∙ c.if-stays_whole.true)))
     c.write_listed.ensures
-
-pub returns-then-not-is_listed_key : goal.returns-then-not-is_listed_key
-returns-then-not-is_listed_key c =
-    unlisted_key (listed_words c.args.lists.now) (attribute_said c.args.attribute.now) c.args.out.now.items (sym c.is_listed_key.ensures ∙ c.if-not-is_listed_key.true)
