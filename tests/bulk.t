@@ -76,7 +76,7 @@ A class more.
   +++ one.html
   -<body class='front page'>
   +<body class="front page dark">
-  tl: two.php: the element that browsers add at byte 34 has no tag to edit (err)
+  tl: two.php: at line 1, column 35: browsers add an element before this, which has no tag: write its start tag, or drop a stray end tag (err)
 
 An id for each heading.
 
@@ -97,7 +97,7 @@ Markup from a file, first in the body of each page; a page without that tag is r
   $ printf '\n<header>Bread</header>' >header.html
   $ tl prepend -iv --html body @header.html one.html two.php
   tl: one.html: 1 place (err)
-  tl: two.php: the element that browsers add at byte 34 has no tag to edit (err)
+  tl: two.php: at line 1, column 35: browsers add an element before this, which has no tag: write its start tag, or drop a stray end tag (err)
   [2]
   $ diff one.html was/one.html | grep '^[0-9]'
   5d4

@@ -219,7 +219,7 @@ With --skip what can't be changed is told and passed over, and the others are ch
 
   $ printf '<p>a</p></p><p>b' >stray
   $ tl set p class k stray
-  tl: stray: the element that browsers add at byte 12 has no tag to edit (err)
+  tl: stray: at line 1, column 13: browsers add an element before this, which has no tag: write its start tag, or drop a stray end tag (err)
   [2]
   $ tl set --skip p class k stray
   <p class="k">a</p></p><p class="k">b (no-eol)
@@ -285,7 +285,7 @@ With --skip what can't be changed is told and passed over, and the others are ch
   tl: -: skipped at line 1, column 20: <q> isn't closed, has no content, or can't be edited this way: close it, or edit its attributes (err)
   [2]
   $ printf '<svg><title><b>x</b></title></svg><b>y</b>' | tl set b k v
-  tl: -: the element at byte 12 has no start tag (err)
+  tl: -: at line 1, column 13: <b> is a tag to browsers, and text by the names of tags alone: move it out of the element it is in (err)
   [2]
   $ printf '<svg><title><b>x</b></title></svg><b>y</b>' | tl set --skip b k v
   <svg><title><b>x</b></title></svg><b k="v">y</b> (no-eol)

@@ -117,7 +117,7 @@ What changes is told; a file whose bytes stay isn't written, and where nothing c
   $ printf '<b class=x><p>1</b>2' | tl set b class --suffix y
   <b class="xy"><p>1</b>2 (no-eol)
   $ printf '<table><tr class=a>' | tl set tbody class --add-word b
-  tl: -: the element that browsers add at byte 7 has no tag to edit (err)
+  tl: -: at line 1, column 8: browsers add an element before this, which has no tag: write its start tag, or drop a stray end tag (err)
   [2]
   $ printf '<table><tr class=a>' | tl set tbody class --suffix b
   <table><tr class=a> (no-eol)
@@ -433,7 +433,7 @@ A body ends at its end tag, where that stands last in the page.
   </html>
   tl: whole: browsers build another tree than is meant by the edit that begins at line 1, column 1 (err)
   $ tl after body x whole
-  tl: whole: the element at byte 0 can't be edited this way: its end tag is missing, or its kind doesn't allow it (err)
+  tl: whole: at line 1, column 1: <body> isn't closed, has no content, or can't be edited this way: close it, or edit its attributes (err)
   [2]
   $ printf '<html><body><p>a</BODY> <!--b--></html>\n' >open
   $ tl append body '!' open
@@ -473,19 +473,19 @@ Something may stand behind the last byte, where what the page ends with is read 
   $ printf '<p>1 <' | tl append --html p 'b>'
   <p>1 <</>b> (no-eol)
   $ printf '<p><title>a' | tl append p x
-  tl: -: this edit would change how other parts of the page are read (element at byte 0) (err)
+  tl: -: at line 1, column 1: <p> can't be edited this way, as other parts of the page would be read differently (err)
   [2]
   $ printf '<p>a<b' | tl append p x
-  tl: -: this edit would change how other parts of the page are read (element at byte 0) (err)
+  tl: -: at line 1, column 1: <p> can't be edited this way, as other parts of the page would be read differently (err)
   [2]
   $ printf '<p>a<!-- b' | tl after p x
-  tl: -: this edit would change how other parts of the page are read (element at byte 0) (err)
+  tl: -: at line 1, column 1: <p> can't be edited this way, as other parts of the page would be read differently (err)
   [2]
   $ printf '<p><title>a' | tl append --html p '<i>'
-  tl: -: this edit would change how other parts of the page are read (element at byte 0) (err)
+  tl: -: at line 1, column 1: <p> can't be edited this way, as other parts of the page would be read differently (err)
   [2]
   $ printf '<li><plaintext>a' | tl after li x
-  tl: -: this edit would change how other parts of the page are read (element at byte 0) (err)
+  tl: -: at line 1, column 1: <li> can't be edited this way, as other parts of the page would be read differently (err)
   [2]
 
 In their files.
@@ -527,33 +527,33 @@ What is refused.
 
   $ printf '<div><q>x</div>y' >open
   $ tl remove q open
-  tl: open: the element at byte 5 can't be edited this way: its end tag is missing, or its kind doesn't allow it (err)
+  tl: open: at line 1, column 6: <q> isn't closed, has no content, or can't be edited this way: close it, or edit its attributes (err)
   [2]
   $ tl unwrap -i q open
-  tl: open: the element at byte 5 can't be edited this way: its end tag is missing, or its kind doesn't allow it (err)
+  tl: open: at line 1, column 6: <q> isn't closed, has no content, or can't be edited this way: close it, or edit its attributes (err)
   [2]
   $ tl append q x open
-  tl: open: the element at byte 5 can't be edited this way: its end tag is missing, or its kind doesn't allow it (err)
+  tl: open: at line 1, column 6: <q> isn't closed, has no content, or can't be edited this way: close it, or edit its attributes (err)
   [2]
   $ tl prepend q 'x' open
   <div><q>xx</div>y (no-eol)
   $ tl before q 'x' open
   <div>x<q>x</div>y (no-eol)
   $ tl after q 'x' open
-  tl: open: the element at byte 5 can't be edited this way: its end tag is missing, or its kind doesn't allow it (err)
+  tl: open: at line 1, column 6: <q> isn't closed, has no content, or can't be edited this way: close it, or edit its attributes (err)
   [2]
   $ printf '<p>a<br>b</p>' >break
   $ tl fill br x break
-  tl: break: the element at byte 4 can't be edited this way: its end tag is missing, or its kind doesn't allow it (err)
+  tl: break: at line 1, column 5: <br> isn't closed, has no content, or can't be edited this way: close it, or edit its attributes (err)
   [2]
   $ tl rename br b break
-  tl: break: the element at byte 4 can't be edited this way: its end tag is missing, or its kind doesn't allow it (err)
+  tl: break: at line 1, column 5: <br> isn't closed, has no content, or can't be edited this way: close it, or edit its attributes (err)
   [2]
   $ tl rename p br break
-  tl: break: the element at byte 0 can't be edited this way: its end tag is missing, or its kind doesn't allow it (err)
+  tl: break: at line 1, column 1: <p> isn't closed, has no content, or can't be edited this way: close it, or edit its attributes (err)
   [2]
   $ tl rename p title break
-  tl: break: the element at byte 0 can't be edited this way: its end tag is missing, or its kind doesn't allow it (err)
+  tl: break: at line 1, column 1: <p> isn't closed, has no content, or can't be edited this way: close it, or edit its attributes (err)
   [2]
   $ tl rename p 'a b' break
   tl: invalid element name: a b (err)
@@ -565,22 +565,22 @@ What is refused.
   tl: invalid element name:  b\x20 (esc) (err)
   [2]
   $ tl append --html p '<!-- ' break
-  tl: break: this edit would change how other parts of the page are read (element at byte 0) (err)
+  tl: break: at line 1, column 1: <p> can't be edited this way, as other parts of the page would be read differently (err)
   [2]
   $ tl append --html p '<i t="' break
-  tl: break: this edit would change how other parts of the page are read (element at byte 0) (err)
+  tl: break: at line 1, column 1: <p> can't be edited this way, as other parts of the page would be read differently (err)
   [2]
   $ printf '<title>a</title>' | tl fill --html title '<b>'
-  tl: -: the new content or name can't be written there (element at byte 0) (err)
+  tl: -: at line 1, column 1: <title> can't have the new content, attribute or name (err)
   [2]
   $ printf '<script>a</script>' | tl fill script '</script>'
-  tl: -: this edit would change how other parts of the page are read (element at byte 0) (err)
+  tl: -: at line 1, column 1: <script> can't be edited this way, as other parts of the page would be read differently (err)
   [2]
   $ printf '<script>a &amp; b</script>' | tl unwrap script
-  tl: -: this edit would change how other parts of the page are read (element at byte 0) (err)
+  tl: -: at line 1, column 1: <script> can't be edited this way, as other parts of the page would be read differently (err)
   [2]
   $ printf '<p>a</p></p>' | tl remove p
-  tl: -: the element that browsers add at byte 12 has no tag to edit (err)
+  tl: -: at line 1, column 13: browsers add an element before this, which has no tag: write its start tag, or drop a stray end tag (err)
   [2]
   $ tl remove 'b[' break
   tl: invalid selector: at byte 2: expected a name (err)
@@ -638,7 +638,7 @@ What is refused.
   tl: invalid attribute name:\x20 (esc) (err)
   [2]
   $ printf '<p>a</p></p>' | tl set p k v
-  tl: -: the element that browsers add at byte 12 has no tag to edit (err)
+  tl: -: at line 1, column 13: browsers add an element before this, which has no tag: write its start tag, or drop a stray end tag (err)
   [2]
 
 A browser may read a `style` or `script` behind an `svg` and its like as markup: no text with `&` or `<` is put there.
@@ -657,7 +657,7 @@ A browser may read a `style` or `script` behind an `svg` and its like as markup:
   <svg>
   <style>a>b</style></svg><style>b</style> (no-eol)
   $ tl fill --html 'svg style' '<g/>' drawing
-  tl: drawing: the new content or name can't be written there (element at byte 6) (err)
+  tl: drawing: at line 2, column 1: <style> can't have the new content, attribute or name (err)
   [2]
   $ tl before 'svg style' 'a<b' drawing
   <svg>
@@ -669,7 +669,7 @@ A browser may read a `style` or `script` behind an `svg` and its like as markup:
   tl: -: a browser may read the text as markup in the element at line 1, after svg at line 1: leave out '<' and '&', or move the element before it (err)
   [2]
   $ printf '<svg><p><xmp>a' | tl append xmp '<'
-  tl: -: the element at byte 8 can't be edited this way: its end tag is missing, or its kind doesn't allow it (err)
+  tl: -: at line 1, column 9: <xmp> isn't closed, has no content, or can't be edited this way: close it, or edit its attributes (err)
   [2]
   $ printf '<svg><title>a</title></svg>' | tl fill title '<'
   <svg><title>&lt;</title></svg> (no-eol)
@@ -733,14 +733,14 @@ What a start tag stands for several times is changed once.
 An element that browsers put in has no tag that could be changed; a key that it has not can go.
 
   $ tl set -i tbody class k rows rows
-  tl: rows: the element that browsers add at byte 7 has no tag to edit (err)
-  tl: rows: the element that browsers add at byte 7 has no tag to edit (err)
+  tl: rows: at line 1, column 8: browsers add an element before this, which has no tag: write its start tag, or drop a stray end tag (err)
+  tl: rows: at line 1, column 8: browsers add an element before this, which has no tag: write its start tag, or drop a stray end tag (err)
   [2]
   $ tl remove 'body *' rows
-  tl: rows: the element that browsers add at byte 7 has no tag to edit (err)
+  tl: rows: at line 1, column 8: browsers add an element before this, which has no tag: write its start tag, or drop a stray end tag (err)
   [2]
   $ printf 'x' | tl append head y
-  tl: -: the element that browsers add at byte 0 has no tag to edit (err)
+  tl: -: at line 1, column 1: browsers add an element before this, which has no tag: write its start tag, or drop a stray end tag (err)
   [2]
   $ printf '<p class=x>a' | tl unset '*' class
   <p>a (no-eol)
@@ -772,7 +772,7 @@ An element has to be whole: what begins in the bytes that it has by its end tags
 Where the tokenizer by itself reads a text, no tag can be changed.
 
   $ printf '<svg><title><b></title></svg>' | tl set b k v
-  tl: -: the element at byte 12 has no start tag (err)
+  tl: -: at line 1, column 13: <b> is a tag to browsers, and text by the names of tags alone: move it out of the element it is in (err)
   [2]
 
 What is written is read again. Where browsers build another tree than the operation of the DOM would have made, that is told, and with --strict refused.
