@@ -119,7 +119,7 @@ pub fn of_edit(error: EditError) -> Option<Unedited> {
         EditError::EndOfPage(place) => (place, Cause::EndOfPage),
         EditError::NotWritten(place) => (place, Cause::NotWritten),
         EditError::ReadOtherwise(place) => (place, Cause::ReadOtherwise),
-        EditError::Misread(..) | EditError::OutOfMemory => return None,
+        _ => return None,
     };
     Some(Unedited { place, cause })
 }
@@ -132,7 +132,7 @@ pub fn of_selection(error: SelectionEditError) -> Option<Unedited> {
             place,
             cause: Cause::Untagged,
         }),
-        SelectionEditError::NotWhole(..) | SelectionEditError::OutOfMemory => None,
+        _ => None,
     }
 }
 
@@ -142,7 +142,7 @@ pub fn of_tags(error: SelectionPatchError) -> Option<Unedited> {
         SelectionPatchError::Untagged(place) => (place, Cause::Untagged),
         SelectionPatchError::NoStartTag(place) => (place, Cause::NoStartTag),
         SelectionPatchError::NotWritten(place) => (place, Cause::NotWritten),
-        SelectionPatchError::OutOfMemory => return None,
+        _ => return None,
     };
     Some(Unedited { place, cause })
 }
