@@ -23,6 +23,9 @@ COMMANDS = (
     (("set", "-i", "p", "k", "v", PAGE), "<p>a<p>b"),
     (("unset", "--dry-run", "p", "k"), "<p k>a"),
     (("remove", "b"), "<p>a<b>c</b>"),
+    (("remove", "--comments=b", PAGE), "<p>a<!--b-->c<!--d-->"),
+    (("unset", "-i", "--skip", "p", "k", PAGE), "<p k>a</p></p>"),
+    (("append", "-i", "--skip", "p", "x", PAGE), "<p>a</p><p>b</p>"),
     (("append", "--backup", ".old", "p", "<", PAGE), "<p>a</p>"),
 )
 # The words come first, and take most requests: those of one command alone are refused one by one.

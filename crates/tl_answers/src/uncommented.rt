@@ -111,8 +111,8 @@ fn comments_meant(
     }
 }
 
-/// The bytes of a page, which is read once, without its comments, or without those in whose text a
-/// regular expression matches, and without no other byte.
+/// The bytes of a page, which is read once, but those of its comments, or of the comments in whose
+/// text a regular expression matches.
 pub fn uncommented_page(
     alloc: Global,
     regex: Option<&Regex>,

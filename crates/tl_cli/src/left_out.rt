@@ -5,8 +5,8 @@ use crate::unedited::{Cause, Telling, Unedited, of_edit};
 use std::alloc::{AllocError, Global};
 use tl_patch_select::LeftOut;
 
-// All that are passed over, in the order in which they stand in the page.
-fn all(alloc: Global, own: &LeftOut) -> Result<Vec<Unedited>, AllocError> {
+/// All that are passed over, in the order in which they stand in the page.
+pub fn passed_over(alloc: Global, own: &LeftOut) -> Result<Vec<Unedited>, AllocError> {
     let mut all = Vec::new(alloc);
     for place in own.untagged.as_slice() {
         all.push(Unedited {
@@ -29,24 +29,13 @@ fn all(alloc: Global, own: &LeftOut) -> Result<Vec<Unedited>, AllocError> {
     Ok(all)
 }
 
-/// Whether some elements are passed over.
-pub fn is_some(own: &LeftOut) -> bool {
-    !(own.untagged.is_empty() && own.crossed.is_empty() && own.refused.is_empty())
-}
-
 /// Says on standard error which elements of a page are passed over, and why: of several that one
 /// start tag stands for once.
-pub fn tell_left_out(
-    rt: &HostRuntime,
-    file: &str,
-    page: &[u8],
-    own: &LeftOut,
-) -> Result<(), AllocError> {
-    let all = all(rt.alloc(), own)?;
+pub fn tell_left_out(rt: &HostRuntime, file: &str, page: &[u8], all: &[Unedited]) {
     let mut position = Position::new();
     let mut at = 0usize;
     let mut told = None;
-    for one in all.as_slice() {
+    for one in all {
         if told == Some(one.place) {
             continue;
         }
@@ -58,5 +47,4 @@ pub fn tell_left_out(
         let telling = Telling { page, own: *one };
         let _ = eprintln!(rt; "tl: {file}: skipped at line {line}, column {column}: {telling}");
     }
-    Ok(())
 }

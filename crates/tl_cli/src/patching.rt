@@ -6,7 +6,7 @@ use crate::args::Pages;
 use crate::crossed::Crossed;
 use crate::in_place::replace;
 use crate::kept_comment::KeptComment;
-use crate::left_out::{is_some, tell_left_out};
+use crate::left_out::{passed_over, tell_left_out};
 use crate::misread::Misread;
 use crate::other_tree::{OtherTree, tell_other_tree};
 use crate::own_bytes::{
@@ -309,11 +309,13 @@ fn put_partly(
     page: &Editable,
     own: &PartlyEdited,
 ) -> Result<Answer, Failure> {
+    // Before anything is written, as memory may run out.
+    let passed = passed_over(rt.alloc(), &own.left_out)?;
     let answer = put_edited(rt, patching, is_strict, file, page, &own.edited)?;
-    if !answer.is_made() || !is_some(&own.left_out) {
+    if !answer.is_made() || passed.is_empty() {
         return Ok(answer);
     }
-    tell_left_out(rt, file, page.text.as_bytes(), &own.left_out)?;
+    tell_left_out(rt, file, page.text.as_bytes(), passed.as_slice());
     Ok(Answer::Failed(Failure::Refused))
 }
 

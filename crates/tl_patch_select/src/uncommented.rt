@@ -8,7 +8,7 @@ use std::alloc::Global;
 use tl_patch_edit::{CommentError, without_comments};
 use tl_tree::Tree;
 
-/// The page without the comments that are these nodes of its tree, and without no other byte. Each
+/// The page without the comments that are these nodes of its tree, and with each other byte. Each
 /// has to be a comment by the tokenizer by itself, too.
 pub fn uncomment_nodes(
     alloc: Global,
