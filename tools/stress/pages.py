@@ -52,7 +52,7 @@ TWENTY = "".join(f"<b x={it}>" for it in range(20))
 # The same of pages that are read into trees: what stands once and what is repeated, by turns.
 TREED = (
     ("", "<div>"), ("", "<b>"), ("", "<b x=%>"), ("", "<b x=%>", "", "</i>"), ("", "<b x=%>", "", "<p>x"),
-    ("<p>", "<b x=%>", "</p>", "<p>x</p>"), ("", "<p><b x=%>"), ("", "<p><b>x</p>"), ("", "<a href=x>x"), ("", "<a href=x><div>x"),
+    ("<p>", "<b x=%>", "</p>", "<p>x</p>"), ("", "<font size=1 color=%>x"), ("", "<p><b x=%>"), ("", "<p><b>x</p>"), ("", "<a href=x>x"), ("", "<a href=x><div>x"),
     ("<b>", "<div>", "", "</b>"), ("<b>", "<div><span>", "", "</b>"), ("", "<i><p>", "", "</i>"), ("", "<b><i><div>", "", "</b></i>"),
     ("<table><b>", "<div>", "", "</b>"), ("<b>", "<div><i x=%>", "", "</b>"),
     ("", "<span>", "", "</x>"), ("<x><div>", "<span>", "", "</x>"), ("", "<span>", "<div>", "</span>"), ("", "<x%>", "", "</y%>"),

@@ -47,6 +47,7 @@ pub mod Tallies
 pub mod Skips
 pub mod Turning
 pub mod AlikeTags
+pub mod Looks
 pub mod Looped
 pub mod OnErrors
 pub mod GroupTable
