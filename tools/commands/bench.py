@@ -8,9 +8,9 @@ Prints a table of each page: nanoseconds a byte, growth, memory, page faults. Th
 same seed and size, and stay in the folder. Where files are named and no kinds, the files alone are timed, without `edit` unless
 it is asked for: the first node of a file may be no tag. What is timed is the program in tools/bench, which isn't proved: it is
 compiled with optimisation and without run-time checks, unless --program names another. --against names another program of the same
-words, as that of `compare/`: both are run by turns, and its figures stand beside ours with the ratio of ours to its.
+words, as that of `compare/port/crate`: both are run by turns, and its figures stand beside ours with the ratio of ours to its.
 
-The Rust crate's words are built by `cargo build --release` in compare, as compare/target/release/compare. Its print takes time
+The Rust crate's words are built by `cargo build --release` in compare/port/crate, as target/release/compare there. Its print takes time
 with the square of the page on news and deep: above 1 MB leave `print` and `again` out (--works).
 
 With --trees pages are read into their trees (`tl_tree`, by the program of tools/trees): nanoseconds a byte for the reading and the

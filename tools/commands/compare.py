@@ -12,17 +12,21 @@
     ./x compare shared ..       which selector texts are read alike as those of the Rust crate and of CSS, by plain readers of both
     ./x compare tools ..        the time that `tl` takes with that of pup, xmllint and hxselect
 
-./x compare NAME --help says more of each. The Rust crate is compared by ./x bench --against (compare/src).
+./x compare NAME --help says more of each. The Rust crate is compared by ./x bench --against (compare/port/crate).
 """
 import importlib
 
 from ..main import parser_of
 
-NAMES = ("check", "edits", "encodings", "browser", "html", "pages", "selectors", "shared", "tools")
+# Where each stands: `compare` has a folder for each thing that is compared.
+FOLDERS = {
+    "check": "port", "edits": "edits", "encodings": "encodings", "browser": "safe", "html": "html", "pages": "others",
+    "selectors": "css", "shared": "css", "tools": "others",
+}  # fmt: skip
 
 
 def main(parser, words):
-    parser.add_argument("name", choices=NAMES)
+    parser.add_argument("name", choices=FOLDERS)
     given = parser.parse_args(words[:1])
-    module = importlib.import_module(f"compare.{given.name}")
+    module = importlib.import_module(f"compare.{FOLDERS[given.name]}.{given.name}")
     return module.main(parser_of(f"compare {given.name}", module), words[1:])

@@ -478,11 +478,17 @@ class OwnSelectors(unittest.TestCase):
 
 
 class Wrong(unittest.TestCase):
+    def assert_refused(self, rows):
+        for wanted, ask in rows:
+            with self.assertRaises(TypeError) as it:
+                ask()
+            self.assertEqual(str(it.exception), wanted)
+
     def test_types(self):
         """What is no text is a TypeError that says what was wanted."""
         document = Document(PAGE)
         item = document.select_one("li")
-        for wanted, ask in (
+        self.assert_refused((
             ("a page is a str, bytes, a path or a file, not int", lambda: Document(1)),
             ("a page is a str, bytes, a path or a file, not NoneType", lambda: Document(None)),
             ("a selector is a str or a Selector, not bytes", lambda: document.select(b"p")),
@@ -502,11 +508,16 @@ class Wrong(unittest.TestCase):
             ("a key is a str, not int", lambda: item[0]),
             ("a key is a str, not bytes", lambda: item.get(b"href")),
             ("a key is a str, not int", lambda: 0 in item),
+            ("'Node' object is not iterable", lambda: list(item)),
+        ))
+
+    def test_types_of_calls_on_texts(self):
+        """The same of calls that take a page as a text, and of policies."""
+        self.assert_refused((
             ("a page is a str, not bytes", lambda: sanitize(b"<p>")),
             ("a policy is a Policy or its lists, not str", lambda: sanitize("<p>", "blog")),
             ("a policy is a Policy or its lists, not str", lambda: removed("<p>", "blog")),
             ("a page is a str, not bytes", lambda: removed(b"<p>")),
-            ("'Node' object is not iterable", lambda: list(item)),
             ("a list is a str or some of them, not int", lambda: Policy.BLOG.lists(tags=1)),
             ("a word of a list is a str, not int", lambda: Policy.BLOG.lists(tags=[1])),
             ("a prefix is a str, not int", lambda: Policy.BLOG.lists(id_prefix=1)),
@@ -516,10 +527,7 @@ class Wrong(unittest.TestCase):
             ("a key is a str, not int", lambda: set_attribute("<p>", "p", 1, "x")),
             ("a value is a str, not int", lambda: set_attribute("<p>", "p", "a", 1)),
             ("a key is a str, not NoneType", lambda: unset_attribute("<p>", "p", None)),
-        ):
-            with self.assertRaises(TypeError) as it:
-                ask()
-            self.assertEqual(str(it.exception), wanted)
+        ))
 
     def test_lone_surrogates(self):
         document = Document(PAGE)
