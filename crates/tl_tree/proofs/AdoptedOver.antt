@@ -4,22 +4,22 @@ use Rattle.std.proofs.Math.Seq.{drop-cons}
 use Rattle.std.proofs.lemmas.Bool.{cond-false, eq-eqb, or_parts}
 use Rattle.std.proofs.lemmas.List.{reverse-reverse, set-get_or}
 use Rattle.std.specs.List.{list_any}
-use Rattle.tl_dom_spec.specs.Adoption.{Clones, cloned, first, inside_of, moved_into, outside_of, readopted, settled_to}
+use Rattle.tl_dom_spec.specs.Adoption.{Clones, cloned, entry_moved, first, inside_of, moved_into, outside_of, readopted, settled_to}
 use Rattle.tl_dom_spec.specs.Builder as dom
-use Rattle.tl_dom_spec.specs.Formatting.{Listed, is_listed, relisted}
+use Rattle.tl_dom_spec.specs.Formatting.{Listed}
 use Rattle.tl_dom_spec.specs.Path.{Frame, Path, Place, document, elements, foster_place, has_number, here, place_in, popped_while, top, top_settled}
 use Rattle.tl_dom_spec.specs.Tags.{Tag, is_foster_target}
 use Rattle.tl_tree.proofs.Changed.{map-reverse}
-use Rattle.tl_tree.proofs.Cloned.{done_by}
+use Rattle.tl_tree.proofs.Chosen.{outermost-block}
 use Rattle.tl_tree.proofs.Fostered.{around-there}
 use Rattle.tl_tree.proofs.Gone.{there-map}
 use Rattle.tl_tree.proofs.Numbers.{none-reverse}
-use Rattle.tl_tree.proofs.Over.{around-same, path-there, seen-turned}
+use Rattle.tl_tree.proofs.Over.{path-there, seen-turned}
 use Rattle.tl_tree.proofs.Readopted.{inside-at, none-inside, outside-at, some-frame}
 use Rattle.tl_tree.proofs.Settled.{is_settled, popped-step, settled-stop}
 use Rattle.tl_tree.proofs.Written.{frames-length}
 use Rattle.tl_tree.specs.Inner.Active.{active_of}
-use Rattle.tl_tree.specs.Inner.Adopted.{IsAdopted, IsNear, adopted_entries, adopted_path, clones_in, emptied, filled, frame_at, is_inside, is_listed_between, moved, outer_in, renewed, renewed_over, shape}
+use Rattle.tl_tree.specs.Inner.Adopted.{IsAdopted, IsNear, adopted_entries, adopted_path, clones_at, clones_in, elements_between, emptied, filled, frame_at, is_inside, moved, outer_in, renewed, renewed_over, shape}
 use Rattle.tl_tree.specs.Inner.Frames.{around, frames_of, path_of, seen}
 use Rattle.tl_tree.specs.Inner.Gone.{there}
 use Rattle.tl_tree.specs.declared.active.ActiveList.{ActiveList}
@@ -92,9 +92,9 @@ moved-seen : (change : Frame → Frame) (marks : List Bool) (xs : List Frame) �
 moved-seen change marks xs =
     ap reverse (there-map change marks xs) ∙ sym (map-reverse change (there marks xs))
 
--- where all between two places was settled, and then the block took the place right outside of it
-pub over-renewed : (p r t : FramePath) (place block i next k : ℕ) (tag own-tag : Tag) → place + 1 < block → block < length p.frames.items → i + 1 ≡ block → get_or p.gaps.marks.items block false ≡ false → length r.frames.items ≡ length p.frames.items → ((n : ℕ) → place < n → n < block → get_or r.gaps.marks.items n false ≡ true) → drop block r.gaps.marks.items ≡ drop block p.gaps.marks.items → drop block (frames_of r) ≡ drop block (frames_of p) → around r (place + 1) ≡ popped_while (is_inside (Some k)) (around p block) → t.gaps.marks.items ≡ set (set r.gaps.marks.items (i + 1) false) i false → frames_of t ≡ take i (frames_of r) ++ renewed next tag (drop (i + 1) (frames_of r)) → tag ≡ own-tag → path_of t ≡ renewed_over (frame_at p block) next own-tag (inside_of (frame_at p block).number (path_of p)) (popped_while (is_inside (Some k)) (around p block))
-over-renewed p r t place block i next k tag own-tag order within is stands long gone marks behind outer turned frames same =
+-- where the block took the place right outside of it
+pub over-renewed : (p r t : FramePath) (block i next : ℕ) (tag own-tag : Tag) (path : Path) → block < length p.frames.items → i + 1 ≡ block → get_or p.gaps.marks.items block false ≡ false → length r.frames.items ≡ length p.frames.items → drop block r.gaps.marks.items ≡ drop block p.gaps.marks.items → drop block (frames_of r) ≡ drop block (frames_of p) → around r i ≡ path → t.gaps.marks.items ≡ set (set r.gaps.marks.items (i + 1) false) i false → frames_of t ≡ take i (frames_of r) ++ renewed next tag (drop (i + 1) (frames_of r)) → tag ≡ own-tag → path_of t ≡ renewed_over (frame_at p block) next own-tag (inside_of (frame_at p block).number (path_of p)) path
+over-renewed p r t block i next tag own-tag path within is stands long marks behind outer turned frames same =
     let ms = r.gaps.marks.items in
     let fs = frames_of r in
     let b = frame_at p block in
@@ -118,8 +118,8 @@ over-renewed p r t place block i next k tag own-tag order within is stands long 
     ∙ (seen-turned ms i fs zs (emptied b) new (omega arith)
     ∙ (ap (λ all. seen all zs ++ (new ∷ emptied b ∷ seen ms (take i fs))) further
     ∙ (ap (λ all. all ++ (new ∷ emptied b ∷ seen ms (take i fs))) (moved-seen change (drop (suc block) p.gaps.marks.items) inner ∙ sym (ap (map change) (inside-there p block within stands)))
-    ∙ (ap (λ path. map change (inside_of b.number (path_of p)) ++ (new ∷ emptied b ∷ path)) (around-same r (place + 1) i (omega arith) (omega arith) (λ n least less. gone n (omega arith) (omega arith)) ∙ outer)
-    ∙ ap (λ (own : Tag). map change (inside_of b.number (path_of p)) ++ (filled next own b ∷ emptied b ∷ popped_while (is_inside (Some k)) (around p block))) same)))))
+    ∙ (ap (λ all. map change (inside_of b.number (path_of p)) ++ (new ∷ emptied b ∷ all)) outer
+    ∙ ap (λ (own : Tag). map change (inside_of b.number (path_of p)) ++ (filled next own b ∷ emptied b ∷ path)) same)))))
 
 -- and the common ancestor stays on top of what is around it
 pub over-top : (p r : FramePath) (place : ℕ) (outer : Path) → place < length r.frames.items → get_or r.gaps.marks.items place false ≡ false → around r (place + 1) ≡ outer → shape (frame_at r place) ≡ shape (frame_at p place) → (top outer).tag ≡ (frame_at p place).tag
@@ -129,32 +129,28 @@ over-top p r place outer within stands is same =
 
 -- The round
 
--- nothing is made anew
-none-listed : (n : ℕ) (fs : List Frame) (entries : List dom.Entry) (next : ℕ) → list_any (λ (f : Frame). is_listed f.number entries) fs ≡ false → cloned n fs entries next ≡ record { frames = []; entries = entries; next = next }
-none-listed n [] entries next h = refl
-none-listed n (f ∷ fs) entries next h =
-    let p = or_parts (is_listed f.number entries) (list_any (λ (g : Frame). is_listed g.number entries) fs) h in
-    ap (λ (b : Bool). done_by n f fs entries next b (nat_lt 2 n)) p.0
-    ∙ none-listed (suc n) fs entries next p.1
-
 goes-here : (is_fostering : Bool) (path : Path) (tag : Tag) → (top path).tag ≡ tag → (is_fostering && is_foster_target tag) ≡ false → place_in is_fostering path ≡ here
 goes-here is_fostering path tag is none =
     ap (λ (own : Tag). cond (is_fostering && is_foster_target own) (foster_place path) here) is
     ∙ ap (λ (b : Bool). cond b (foster_place path) here) none
 
-flat-listed : (entries : List dom.Entry) (k : ℕ) (p : FramePath) (n : ℕ) → is_listed_between entries k p n ≡ false → list_any (λ (f : Frame). is_listed f.number entries) (elements (inside_of k (around p n))) ≡ false
-unfolding is_listed_between
-flat-listed entries k p n h = h
+flat-between : (k : ℕ) (p : FramePath) (n : ℕ) → elements_between k p n ≡ elements (inside_of k (around p n))
+unfolding elements_between
+flat-between k p n = refl
 
-pub adopted-over : (is_fostering : Bool) (p t : FramePath) (list : ActiveList) (own : Listed) (place k block : ℕ) (entries : List dom.Entry) → k ≡ place + 1 → k < block → block < length p.frames.items → get_or p.gaps.marks.items block false ≡ false → get_or p.gaps.marks.items place false ≡ false → get_or p.gaps.marks.items k false ≡ false → IsNear is_fostering own.number (frame_at p place) (frame_at p k) → is_listed_between entries own.number p block ≡ false → path_of t ≡ renewed_over (frame_at p block) p.next own.tag (inside_of (frame_at p block).number (path_of p)) (popped_while (is_inside (Some (frame_at p place).number)) (around p block)) → (top (popped_while (is_inside (Some (frame_at p place).number)) (around p block))).tag ≡ (frame_at p place).tag → active_of t.store list ≡ relisted own.number p.next entries → t.next ≡ suc p.next → IsAdopted is_fostering own (frame_at p block) (clones_in own (frame_at p block) (path_of p) entries p.next) p t list 0
-adopted-over is_fostering p t list own place k block entries is-k order within stands anc-stands own-stands near unlisted path tag active next =
+-- what the round makes of the path and the list, with clones of what stood at these places
+pub adopted-over : (is_fostering : Bool) (p t : FramePath) (list : ActiveList) (own : Listed) (place k block next count : ℕ) (places : List ℕ) (before entries : List dom.Entry) → k ≡ place + 1 → k < block → block < length p.frames.items → get_or p.gaps.marks.items block false ≡ false → get_or p.gaps.marks.items place false ≡ false → get_or p.gaps.marks.items k false ≡ false → IsNear is_fostering own.number (frame_at p place) (frame_at p k) → cloned 0 (elements_between (frame_at p k).number p block) before p.next ≡ record { frames = clones_at (frames_of p) p.next places; entries = entries; next = next } → path_of t ≡ renewed_over (frame_at p block) next own.tag (inside_of (frame_at p block).number (path_of p)) (clones_at (frames_of p) p.next places ++ popped_while (is_inside (Some (frame_at p place).number)) (around p block)) → (top (popped_while (is_inside (Some (frame_at p place).number)) (around p block))).tag ≡ (frame_at p place).tag → active_of t.store list ≡ entry_moved own.number next own.tag (clones_at (frames_of p) p.next places) entries → t.next ≡ suc next → next ≡ p.next + count → IsAdopted is_fostering own (frame_at p block) (clones_in own (frame_at p block) (path_of p) before p.next) p t list count
+adopted-over is_fostering p t list own place k block next count places before entries is-k order within stands anc-stands own-stands near chosen path tag active more is-count =
     let b = frame_at p block in
     let anc = frame_at p place in
+    let clones = clones_at (frames_of p) p.next places in
     let ancestor = popped_while (is_inside (Some anc.number)) (around p block) in
+    let some : Clones = record { frames = clones; entries = entries; next = next } in
     let out : outside_of b.number (path_of p) ≡ around p block = outside-there p block within stands in
-    let whole : clones_in own b (path_of p) entries p.next ≡ record { frames = []; entries = entries; next = p.next } =
-    ap (λ (all : Path). cloned 0 (elements (inside_of own.number all)) entries p.next) out
-    ∙ none-listed 0 (elements (inside_of own.number (around p block))) entries p.next (flat-listed entries own.number p block unlisted) in
+    let whole : clones_in own b (path_of p) before p.next ≡ some =
+    ap (λ (all : Path). cloned 0 (elements (inside_of own.number all)) before p.next) out
+    ∙ (ap (λ (n : ℕ). cloned 0 (elements (inside_of n (around p block))) before p.next) (sym near.number)
+    ∙ (ap (λ (fs : List Frame). cloned 0 fs before p.next) (sym (flat-between (frame_at p k).number p block)) ∙ chosen)) in
     let around-own : outside_of own.number (path_of p) ≡ anc ∷ around p place =
     ap (λ (n : ℕ). outside_of n (path_of p)) (sym near.number)
     ∙ (outside-there p k (omega arith) own-stands ∙ (ap (around p) is-k ∙ around-there p place (omega arith) anc-stands)) in
@@ -165,15 +161,15 @@ adopted-over is_fostering p t list own place k block entries is-k order within s
     ap (λ (f : Option Frame). settled_to f (outside_of b.number (path_of p))) found
     ∙ ap (popped_while (is_inside (Some anc.number))) out in
     let goes = goes-here is_fostering ancestor anc.tag tag near.fosters in
-    let none : Clones = record { frames = []; entries = entries; next = p.next } in
-    let done : Place → Path = λ (at : Place). moved_into b.number p.next (inside_of b.number (path_of p)) ++ readopted at b own none ancestor in
+    let done : Place → Path = λ (at : Place). moved_into b.number next (inside_of b.number (path_of p)) ++ readopted at b own some ancestor in
     record {
       path =
           path
+          ∙ (ap (λ (all : Path). map (moved b.number next) (inside_of b.number (path_of p)) ++ (filled next own.tag b ∷ (all ++ ancestor))) (sym (outermost-block b (frames_of p) p.next places))
           ∙ (ap done (sym goes)
-          ∙ (ap (λ (all : Path). adopted_path is_fostering own b none all (path_of p)) (sym outer)
-          ∙ ap (λ (cl : Clones). adopted_path is_fostering own b cl (outer_in own b (path_of p)) (path_of p)) (sym whole)));
+          ∙ (ap (λ (all : Path). adopted_path is_fostering own b some all (path_of p)) (sym outer)
+          ∙ ap (λ (cl : Clones). adopted_path is_fostering own b cl (outer_in own b (path_of p)) (path_of p)) (sym whole))));
       active = active ∙ ap (adopted_entries own) (sym whole);
-      next = next ∙ ap (λ (cl : Clones). suc cl.next) (sym whole);
-      made = ap (λ (cl : Clones). cl.next) whole ∙ omega arith;
+      next = more ∙ ap (λ (cl : Clones). suc cl.next) (sym whole);
+      made = ap (λ (cl : Clones). cl.next) whole ∙ is-count;
     }

@@ -16,7 +16,7 @@ use Rattle.tl_tree.proofs.Over.{stands-open}
 use Rattle.tl_tree.proofs.Popped.{some-around}
 use Rattle.tl_tree.proofs.Readopted.{some-frame}
 use Rattle.tl_tree.proofs.Skipped.{none-at, numbered-behind}
-use Rattle.tl_tree.specs.Inner.Adopted.{frame_at, is_inside, is_listed_between, shape}
+use Rattle.tl_tree.specs.Inner.Adopted.{frame_at, is_inside, shape}
 use Rattle.tl_tree.specs.Inner.Frames.{around}
 use Rattle.tl_tree.specs.declared.path.FramePath.{FramePath}
 
@@ -28,40 +28,9 @@ pub if-some-both : {T : Type 0} (P Q R : T → Type 0) (r : Option T) → ((x : 
 if-some-both P Q R None f p q = tt
 if-some-both P Q R (Some x) f p q = f x p q
 
--- None of these is listed
-
-pub listed-own : (entries : List Entry) (k : ℕ) (p : FramePath) (m : ℕ) → m < length p.frames.items → get_or p.gaps.marks.items m false ≡ false → (frame_at p m).number ≡ k → is_listed_between entries k p (m + 1) ≡ false
-unfolding is_listed_between
-listed-own entries k p m h stands own =
-    ap (λ (path : Path). list_any (λ (f : Frame). is_listed f.number entries) (elements (inside_of k path))) (around-there p m h stands)
-    ∙ ap (λ (b : Bool). list_any (λ (f : Frame). is_listed f.number entries) (elements (cond b [] (frame_at p m ∷ inside_of k (around p m))))) (eq-eqb (frame_at p m).number k own)
-
-pub gone-listed : (entries : List Entry) (k : ℕ) (p : FramePath) (m : ℕ) → m < length p.frames.items → get_or p.gaps.marks.items m false ≡ true → is_listed_between entries k p (m + 1) ≡ is_listed_between entries k p m
-unfolding is_listed_between
-gone-listed entries k p m h gone =
-    ap (λ (path : Path). list_any (λ (f : Frame). is_listed f.number entries) (elements (inside_of k path))) (around-gone p m h gone)
-
-pub other-listed : (entries : List Entry) (k : ℕ) (p : FramePath) (m : ℕ) → m < length p.frames.items → get_or p.gaps.marks.items m false ≡ false → (frame_at p m).number ≢ k → ((frame_at p m).is_open && is_listed (frame_at p m).number entries) ≡ false → is_listed_between entries k p (m + 1) ≡ is_listed_between entries k p m
-unfolding is_listed_between
-other-listed entries k p m h stands other none =
-    let f = frame_at p m in
-    let rest = inside_of k (around p m) in
-    ap (λ (path : Path). list_any (λ (g : Frame). is_listed g.number entries) (elements (inside_of k path))) (around-there p m h stands)
-    ∙ (ap (λ (b : Bool). list_any (λ (g : Frame). is_listed g.number entries) (elements (cond b [] (f ∷ rest)))) (ne_eqb f.number k other)
-    ∙ (parted f rest f.is_open ∙ by-open f.is_open (is_listed f.number entries) (list_any (λ (g : Frame). is_listed g.number entries) (elements rest)) none))
-  where
-    parted : (f : Frame) (rest : Path) (o : Bool) → list_any (λ (g : Frame). is_listed g.number entries) (cond o (f ∷ elements rest) (elements rest)) ≡ cond o (is_listed f.number entries || list_any (λ (g : Frame). is_listed g.number entries) (elements rest)) (list_any (λ (g : Frame). is_listed g.number entries) (elements rest))
-    parted f rest true = refl
-    parted f rest false = refl
-
-    by-open : (o l rest : Bool) → (o && l) ≡ false → cond o (l || rest) rest ≡ rest
-    by-open false l rest e = refl
-    by-open true true rest e = absurd (false≢true (sym e))
-    by-open true false rest e = refl
-
 -- What is settled between
 
-apart : (r : FramePath) (a m : ℕ) → a < m → m < length r.frames.items → nat_eq (frame_at r m).number (frame_at r a).number ≡ false
+pub apart : (r : FramePath) (a m : ℕ) → a < m → m < length r.frames.items → nat_eq (frame_at r m).number (frame_at r a).number ≡ false
 apart r a m less h =
     let f = get_or r.frames.items a (some-frame r) in
     let is : f ≡ get_or r.frames.items a f = get_or_default r.frames.items a (some-frame r) f (omega arith) in

@@ -46,6 +46,7 @@ pub mod ActiveNumbers
 pub mod Tallies
 pub mod Skips
 pub mod Turning
+pub mod Standing
 pub mod AlikeTags
 pub mod Looks
 pub mod Looped
@@ -66,6 +67,8 @@ pub mod Numbers
 pub mod Readopted
 pub mod Outer
 pub mod Turned
+pub mod StoodIn
+pub mod Chosen
 pub mod Over
 pub mod Placed
 pub mod Cloned

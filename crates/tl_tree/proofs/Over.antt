@@ -135,6 +135,23 @@ settled-shapes p new a n nodes frames m less =
     ∙ (shape-changed a m dom.caught_up one dom.document (λ f. refl)
     ∙ shape-changed a m (dom.with_nodes nodes) fs dom.document (λ f. refl)))
 
+map-changed : {B : Type 0} (say : dom.Frame → B) (n : ℕ) (change : dom.Frame → dom.Frame) (frames : List dom.Frame) → ((f : dom.Frame) → say (change f) ≡ say f) → map say (changed n change frames) ≡ map say frames
+map-changed say n change [] same = refl
+map-changed say zero change (f ∷ frames) same =
+    ap (λ own. own ∷ map say frames) (same f)
+map-changed say (suc n) change (f ∷ frames) same =
+    ap (λ rest. say f ∷ rest) (map-changed say n change frames same)
+
+-- what is said of frames that isn't of what is in them, and not whether they are open
+pub settled-said : {B : Type 0} (say : dom.Frame → B) (p : FramePath) (new : List dom.Frame) (a n : ℕ) (nodes : dom.Nodes) → ((f : dom.Frame) → say (closed f) ≡ say f) → ((f : dom.Frame) → say (dom.caught_up f) ≡ say f) → ((f : dom.Frame) → say (dom.with_nodes nodes f) ≡ say f) → new ≡ changed n closed (changed a dom.caught_up (changed a (dom.with_nodes nodes) (frames_of p))) → map say new ≡ map say (frames_of p)
+settled-said say p new a n nodes shut caught filled frames =
+    let fs = frames_of p in
+    let one = changed a (dom.with_nodes nodes) fs in
+    ap (map say) frames
+    ∙ (map-changed say n closed (changed a dom.caught_up one) shut
+    ∙ (map-changed say a dom.caught_up one caught
+    ∙ map-changed say a (dom.with_nodes nodes) fs filled))
+
 -- a frame that was closed may be gone
 pub shut-left : (r q : FramePath) (n : ℕ) → n < length r.frames.items → length q.frames.items ≡ length r.frames.items → frames_of q ≡ changed n closed (frames_of r) → IsTrue (are_shut (without n q.gaps.marks.items) q.frames.items)
 shut-left r q n h size frames =

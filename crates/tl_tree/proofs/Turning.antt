@@ -31,19 +31,20 @@ cut-turned place new old left is =
 
 -- Limits, where the new one passes each test that the one before it passes
 
-skips-turned : (test : Entered → Bool) (n : ℕ) (outer inner : List Entered) (gone inside new : Entered) → (IsTrue (test inside) → IsTrue (test new)) → IsTrue (skips test n (outer ++ gone ∷ inside ∷ inner)) → IsTrue (skips test n (outer ++ inside ∷ new ∷ inner))
-skips-turned test zero [] inner gone inside new passes all =
+pub skips-turned : (test : Entered → Bool) (n : ℕ) (outer inner : List Entered) (gone inside own new : Entered) → (IsTrue (test inside) → IsTrue (test own)) → (IsTrue (test inside) → IsTrue (test new)) → IsTrue (skips test n (outer ++ gone ∷ inside ∷ inner)) → IsTrue (skips test n (outer ++ own ∷ new ∷ inner))
+skips-turned test zero [] inner gone inside own new first passes all =
     let p = and_parts (test gone) (test inside && list_all test inner) all in
     let q = and_parts (test inside) (list_all test inner) p.1 in
-    and_from (test inside) (test new && list_all test inner) q.0 (and_from (test new) (list_all test inner) (passes q.0) q.1)
-skips-turned test (suc zero) [] inner gone inside new passes all =
+    and_from (test own) (test new && list_all test inner) (first q.0) (and_from (test new) (list_all test inner) (passes q.0) q.1)
+skips-turned test (suc zero) [] inner gone inside own new first passes all =
     let q = and_parts (test inside) (list_all test inner) all in
     and_from (test new) (list_all test inner) (passes q.0) q.1
-skips-turned test (suc (suc n)) [] inner gone inside new passes all = all
-skips-turned test zero (x ∷ outer) inner gone inside new passes all =
+skips-turned test (suc (suc n)) [] inner gone inside own new first passes all = all
+skips-turned test zero (x ∷ outer) inner gone inside own new first passes all =
     let p = and_parts (test x) (list_all test (outer ++ gone ∷ inside ∷ inner)) all in
-    and_from (test x) (list_all test (outer ++ inside ∷ new ∷ inner)) p.0 (skips-turned test zero outer inner gone inside new passes p.1)
-skips-turned test (suc n) (x ∷ outer) inner gone inside new passes all = skips-turned test n outer inner gone inside new passes all
+    and_from (test x) (list_all test (outer ++ own ∷ new ∷ inner)) p.0 (skips-turned test zero outer inner gone inside own new first passes p.1)
+skips-turned test (suc n) (x ∷ outer) inner gone inside own new first passes all =
+    skips-turned test n outer inner gone inside own new first passes all
 
 -- a limit that lies further in
 skips-further : (test : Entered → Bool) (n m : ℕ) (xs : List Entered) → n ≤ m → IsTrue (skips test n xs) → IsTrue (skips test m xs)
@@ -88,19 +89,19 @@ module _ (test : Entry → Entered → Bool) (limit : Entry → ℕ) where
       (subst (λ (xs : List Entered). IsTrue (are_kept test limit xs rest)) (sym (append_assoc outer (x.own ∷ []) (elements entries))) behind))
 
   -- those further in keep what they kept, where for each of them the new one passes
-  kept-inner : (fits : Entered → Bool) (outer more : List Entered) (gone inside new : Entered) (inner : List Entry) → ((e : Entry) → IsTrue (fits e.own) → IsTrue (test e inside) → IsTrue (test e new)) → IsTrue (list_all fits (elements inner)) → IsTrue (are_kept test limit (outer ++ gone ∷ inside ∷ more) inner) → IsTrue (are_kept test limit (outer ++ inside ∷ new ∷ more) inner)
-  kept-inner fits outer more gone inside new [] passes all kept = refl
-  kept-inner fits outer more gone inside new (e ∷ inner) passes all kept =
+  kept-inner : (fits : Entered → Bool) (outer more : List Entered) (gone inside own new : Entered) (inner : List Entry) → ((e : Entry) → IsTrue (test e inside) → IsTrue (test e own)) → ((e : Entry) → IsTrue (fits e.own) → IsTrue (test e inside) → IsTrue (test e new)) → IsTrue (list_all fits (elements inner)) → IsTrue (are_kept test limit (outer ++ gone ∷ inside ∷ more) inner) → IsTrue (are_kept test limit (outer ++ own ∷ new ∷ more) inner)
+  kept-inner fits outer more gone inside own new [] first passes all kept = refl
+  kept-inner fits outer more gone inside own new (e ∷ inner) first passes all kept =
       let f = and_parts (fits e.own) (list_all fits (elements inner)) all in
       let p = and_parts (skips (test e) (limit e) (outer ++ gone ∷ inside ∷ more)) (are_kept test limit ((outer ++ gone ∷ inside ∷ more) ++ e.own ∷ []) inner) kept in
-      and_from (skips (test e) (limit e) (outer ++ inside ∷ new ∷ more)) (are_kept test limit ((outer ++ inside ∷ new ∷ more) ++ e.own ∷ []) inner)
-      (skips-turned (test e) (limit e) outer more gone inside new (passes e f.0) p.0)
-      (subst (λ (xs : List Entered). IsTrue (are_kept test limit xs inner)) (sym (append_assoc outer (inside ∷ new ∷ more) (e.own ∷ [])))
-      (kept-inner fits outer (more ++ e.own ∷ []) gone inside new inner passes f.1
+      and_from (skips (test e) (limit e) (outer ++ own ∷ new ∷ more)) (are_kept test limit ((outer ++ own ∷ new ∷ more) ++ e.own ∷ []) inner)
+      (skips-turned (test e) (limit e) outer more gone inside own new (first e) (passes e f.0) p.0)
+      (subst (λ (xs : List Entered). IsTrue (are_kept test limit xs inner)) (sym (append_assoc outer (own ∷ new ∷ more) (e.own ∷ [])))
+      (kept-inner fits outer (more ++ e.own ∷ []) gone inside own new inner first passes f.1
       (subst (λ (xs : List Entered). IsTrue (are_kept test limit xs inner)) (append_assoc outer (gone ∷ inside ∷ more) (e.own ∷ [])) p.1)))
 
-  kept-turned : (fits : Entered → Bool) (outer inner : List Entry) (gone inside a b : Entry) → a.own ≡ inside.own → ((e : Entry) → IsTrue (fits e.own) → IsTrue (test e inside.own) → IsTrue (test e b.own)) → IsTrue (list_all fits (elements inner)) → IsTrue (are_kept test limit [] (outer ++ gone ∷ inside ∷ inner)) → (IsTrue (skips (test gone) (limit gone) (elements outer)) → IsTrue (skips (test inside) (limit inside) (elements outer ++ gone.own ∷ [])) → IsTrue (skips (test a) (limit a) (elements outer)) × IsTrue (skips (test b) (limit b) (elements outer ++ a.own ∷ []))) → IsTrue (are_kept test limit [] (outer ++ a ∷ b ∷ inner))
-  kept-turned fits outer inner gone inside a b same passes all kept own =
+  pub kept-turned : (fits : Entered → Bool) (outer inner : List Entry) (gone inside a b : Entry) → ((e : Entry) → IsTrue (test e inside.own) → IsTrue (test e a.own)) → ((e : Entry) → IsTrue (fits e.own) → IsTrue (test e inside.own) → IsTrue (test e b.own)) → IsTrue (list_all fits (elements inner)) → IsTrue (are_kept test limit [] (outer ++ gone ∷ inside ∷ inner)) → (IsTrue (skips (test gone) (limit gone) (elements outer)) → IsTrue (skips (test inside) (limit inside) (elements outer ++ gone.own ∷ [])) → IsTrue (skips (test a) (limit a) (elements outer)) × IsTrue (skips (test b) (limit b) (elements outer ++ a.own ∷ []))) → IsTrue (are_kept test limit [] (outer ++ a ∷ b ∷ inner))
+  kept-turned fits outer inner gone inside a b first passes all kept own =
       let xs = elements outer in
       let p = and_parts (skips (test gone) (limit gone) xs) (skips (test inside) (limit inside) (xs ++ gone.own ∷ []) && are_kept test limit ((xs ++ gone.own ∷ []) ++ inside.own ∷ []) inner) (kept-behind [] outer (gone ∷ inside ∷ inner) kept) in
       let q = and_parts (skips (test inside) (limit inside) (xs ++ gone.own ∷ [])) (are_kept test limit ((xs ++ gone.own ∷ []) ++ inside.own ∷ []) inner) p.1 in
@@ -108,23 +109,22 @@ module _ (test : Entry → Entered → Bool) (limit : Entry → ℕ) where
       let old : IsTrue (are_kept test limit (xs ++ gone.own ∷ inside.own ∷ []) inner) = subst (λ (ys : List Entered). IsTrue (are_kept test limit ys inner)) (append_assoc xs (gone.own ∷ []) (inside.own ∷ [])) q.1 in
       let new : IsTrue (are_kept test limit ((xs ++ a.own ∷ []) ++ b.own ∷ []) inner) =
       subst (λ (ys : List Entered). IsTrue (are_kept test limit ys inner)) (sym (append_assoc xs (a.own ∷ []) (b.own ∷ [])))
-      (subst (λ (x : Entered). IsTrue (are_kept test limit (xs ++ x ∷ b.own ∷ []) inner)) (sym same)
-      (kept-inner fits xs [] gone.own inside.own b.own inner passes all old)) in
+      (kept-inner fits xs [] gone.own inside.own a.own b.own inner first passes all old) in
       kept-joined [] outer (a ∷ b ∷ inner) (kept-front test limit [] outer (gone ∷ inside ∷ inner) kept)
       (and_from (skips (test a) (limit a) xs) (skips (test b) (limit b) (xs ++ a.own ∷ []) && are_kept test limit ((xs ++ a.own ∷ []) ++ b.own ∷ []) inner) ends.0
       (and_from (skips (test b) (limit b) (xs ++ a.own ∷ [])) (are_kept test limit ((xs ++ a.own ∷ []) ++ b.own ∷ []) inner) ends.1 new))
 
 -- Places
 
-number-first : (outer inner : List Entry) (a b : Entry) → get_or (numbers (outer ++ a ∷ b ∷ inner)) (length outer) 0 ≡ a.own.number
+pub number-first : (outer inner : List Entry) (a b : Entry) → get_or (numbers (outer ++ a ∷ b ∷ inner)) (length outer) 0 ≡ a.own.number
 number-first [] inner a b = refl
 number-first (x ∷ outer) inner a b = number-first outer inner a b
 
-number-second : (outer inner : List Entry) (a b : Entry) → get_or (numbers (outer ++ a ∷ b ∷ inner)) (suc (length outer)) 0 ≡ b.own.number
+pub number-second : (outer inner : List Entry) (a b : Entry) → get_or (numbers (outer ++ a ∷ b ∷ inner)) (suc (length outer)) 0 ≡ b.own.number
 number-second [] inner a b = refl
 number-second (x ∷ outer) inner a b = number-second outer inner a b
 
-number-other : (outer inner : List Entry) (a b c d : Entry) (place : ℕ) → place ≢ length outer → place ≢ suc (length outer) → get_or (numbers (outer ++ a ∷ b ∷ inner)) place 0 ≡ get_or (numbers (outer ++ c ∷ d ∷ inner)) place 0
+pub number-other : (outer inner : List Entry) (a b c d : Entry) (place : ℕ) → place ≢ length outer → place ≢ suc (length outer) → get_or (numbers (outer ++ a ∷ b ∷ inner)) place 0 ≡ get_or (numbers (outer ++ c ∷ d ∷ inner)) place 0
 number-other [] inner a b c d zero first second = absurd (first refl)
 number-other [] inner a b c d (suc zero) first second = absurd (second refl)
 number-other [] inner a b c d (suc (suc place)) first second = refl
@@ -133,14 +133,14 @@ number-other (x ∷ outer) inner a b c d (suc place) first second =
     number-other outer inner a b c d place (λ (same : place ≡ length outer). first (ap suc same)) (λ (same : place ≡ suc (length outer)). second (ap suc same))
 
 -- an element stands at a place, at the next one, or elsewhere
-which : (place many : ℕ) → (place ≡ many) ⊎ ((place ≡ suc many) ⊎ ((place ≢ many) × (place ≢ suc many)))
+pub which : (place many : ℕ) → (place ≡ many) ⊎ ((place ≡ suc many) ⊎ ((place ≢ many) × (place ≢ suc many)))
 which place many =
     elim (eqb_tells place many) [
       | inl same ↦ inl same.1
       | inr first ↦ elim (eqb_tells place (suc many)) [ inl same ↦ inr (inl same.1) | inr second ↦ inr (inr (first.1, second.1)) ]
     ]
 
-length-turned : (outer inner : List Entry) (a b c d : Entry) → length (outer ++ a ∷ b ∷ inner) ≡ length (outer ++ c ∷ d ∷ inner)
+pub length-turned : (outer inner : List Entry) (a b c d : Entry) → length (outer ++ a ∷ b ∷ inner) ≡ length (outer ++ c ∷ d ∷ inner)
 length-turned [] inner a b c d = refl
 length-turned (x ∷ outer) inner a b c d = ap suc (length-turned outer inner a b c d)
 
@@ -198,10 +198,10 @@ abbrev pub added : Entry → Entry → Entered → ℕ → Entry
 added gone inside new place =
     record { own = new; limits = raised gone.limits inside.own.role (place + 1); name = place + 1 }
 
-elements-two : (outer inner : List Entry) (a b : Entry) → elements (outer ++ a ∷ b ∷ inner) ≡ elements outer ++ a.own ∷ b.own ∷ elements inner
+pub elements-two : (outer inner : List Entry) (a b : Entry) → elements (outer ++ a ∷ b ∷ inner) ≡ elements outer ++ a.own ∷ b.own ∷ elements inner
 elements-two outer inner a b = map-append (λ (entry : Entry). entry.own) outer (a ∷ b ∷ inner)
 
-all-true : (xs : List Entered) → IsTrue (list_all (λ (x : Entered). true) xs)
+pub all-true : (xs : List Entered) → IsTrue (list_all (λ (x : Entered). true) xs)
 all-true [] = refl
 all-true (x ∷ xs) = all-true xs
 
@@ -242,7 +242,7 @@ sound-turned outer inner gone inside new limits names places place deep fewer ne
           (and_from (test b) (list_all test inner) (lt-ltb new.role.name (length names) name) split-behind.1)));
       limited = λ kind.
           is (is_not_of kind) (limit_at kind limits)
-          (skips-turned (is_not_of kind) (limit_at kind limits) xs ys gone.own inside.own new (fewer kind) (was (is_not_of kind) (limit_at kind limits) (old.limited kind)));
+          (skips-turned (is_not_of kind) (limit_at kind limits) xs ys gone.own inside.own inside.own new (λ is. is) (fewer kind) (was (is_not_of kind) (limit_at kind limits) (old.limited kind)));
       sought = λ n.
           elim (eqb_tells new.role.name n) [
             | inl same ↦ subst (λ (m : ℕ). IsTrue (skips (is_elsewhere m) (get_or (set names new.role.name (place + 2)) m 0) (elements (outer ++ a ∷ b ∷ inner)))) same.1
@@ -251,14 +251,14 @@ sound-turned outer inner gone inside new limits names places place deep fewer ne
                 (skips-at (is_elsewhere new.role.name) (place + 2) xs ys inside.own new (omega arith) none-inner)))
             | inr other ↦ subst (λ (m : ℕ). IsTrue (skips (is_elsewhere n) m (elements (outer ++ a ∷ b ∷ inner)))) (sym (get_or-set_other names new.role.name n (place + 2) 0 (λ (same : n ≡ new.role.name). other.1 (sym same))))
                 (is (is_elsewhere n) (get_or names n 0)
-                (skips-turned (is_elsewhere n) (get_or names n 0) xs ys gone.own inside.own new (λ (_ : IsTrue (is_elsewhere n inside.own)). ap not other.0) (was (is_elsewhere n) (get_or names n 0) (old.sought n))))
+                (skips-turned (is_elsewhere n) (get_or names n 0) xs ys gone.own inside.own inside.own new (λ is. is) (λ (_ : IsTrue (is_elsewhere n inside.own)). ap not other.0) (was (is_elsewhere n) (get_or names n 0) (old.sought n))))
           ];
       limits_kept = λ kind.
-          kept-turned (kept_of kind) (kept_at kind) (λ (x : Entered). true) outer inner gone inside a b refl (λ (e : Entry) (_ : IsTrue true). fewer kind) (all-true ys) (old.limits_kept kind)
+          kept-turned (kept_of kind) (kept_at kind) (λ (x : Entered). true) outer inner gone inside a b (λ (e : Entry) is. is) (λ (e : Entry) (_ : IsTrue true). fewer kind) (all-true ys) (old.limits_kept kind)
           (λ (first : IsTrue (skips (is_not_of kind) (limit_at kind gone.limits) xs)) (_ : IsTrue (skips (is_not_of kind) (limit_at kind inside.limits) (xs ++ gone.own ∷ []))).
           (first, subst (λ (n : ℕ). IsTrue (skips (is_not_of kind) (limit_at kind (raised gone.limits inside.own.role (n + 1))) (xs ++ inside.own ∷ []))) deep-own (kind-raised kind gone.limits xs inside.own first)));
       names_kept =
-          kept-turned name_kept_of name_kept_at (is_elsewhere new.role.name) outer inner gone inside a b refl
+          kept-turned name_kept_of name_kept_at (is_elsewhere new.role.name) outer inner gone inside a b (λ (e : Entry) is. is)
           (λ (e : Entry) (other : IsTrue (is_elsewhere new.role.name e.own)) (_ : IsTrue (is_elsewhere e.own.role.name inside.own)). elsewhere-swap e.own new other)
           none-inner old.names_kept
           (λ (_ : IsTrue (skips (is_elsewhere gone.own.role.name) gone.name xs)) (second : IsTrue (skips (is_elsewhere inside.own.role.name) inside.name (xs ++ gone.own ∷ []))). (

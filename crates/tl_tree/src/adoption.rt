@@ -1,11 +1,11 @@
 //! The adoption agency algorithm (13.2.6.4.7), on the path and the list of active formatting
 //! elements.
 ghost use Rattle.std.specs.Prelude.{IfOk, List, OnOk, [], false, length, reverse, slice_index_or, take, true, ℕ, ◌+◌, ◌<◌, ◌^◌, ◌≡◌, ◌≤◌};
-ghost use Rattle.tl_dom_spec.specs.Adoption.{cloned, entry_moved, inside_of};
+ghost use Rattle.tl_dom_spec.specs.Adoption.{Clones, cloned, entry_moved, inside_of};
 ghost use Rattle.tl_dom_spec.specs.Path as dom;
 ghost use Rattle.tl_dom_spec.specs.Path.{elements, here};
 ghost use Rattle.tl_tree.specs.Inner.Active.{active_of, listed_of};
-ghost use Rattle.tl_tree.specs.Inner.Adopted.{AreMade, IsAdopted, IsFirst, IsNear, clones_in, frame_at, is_listed_between, none_cloned, with_element};
+ghost use Rattle.tl_tree.specs.Inner.Adopted.{AreInward, AreMade, IsAdopted, IsFirst, IsNear, after_clones, clones_at, clones_in, elements_between, frame_at, none_cloned, with_element};
 ghost use Rattle.tl_tree.specs.Inner.Frames.{frames_of, path_of};
 ghost use Rattle.tl_tree.specs.Inner.Store.{Grows, tag_at};
 ghost use Rattle.tl_tree.specs.Inner.Tallied.{IsTallied};
@@ -142,6 +142,100 @@ fn add_clones(
     Ok(between.made)
 }
 
+// The element at a place is made anew, is listed no more, or leaves the stack. If it is made anew
+// the next number is that of the clone. How many elements were looked at is the answer.
+fn choose_at(
+    path: &mut FramePath<'_>,
+    active: &mut ActiveList,
+    clones: &mut Vec<usize>,
+    index: usize,
+    seen: usize,
+) -> Result<usize, GrowError>
+    requires within { index < length path.old.frames.items }
+    requires few { seen + 1 < 2 ^ 64 }
+    requires numbered { active.old.greatest_number < path.old.next }
+    requires listed { active.old.greatest_tag < length path.old.store.tags.items }
+    requires tallied { IsTallied path.old.store active.old }
+    ensures ok { IfOk result (λ after. (fs : List dom.Frame) (all : Clones) (first : ℕ) →
+        path.old.next ≡ first + length clones.old.items →
+        all ≡ after_clones (clones_at (frames_of path.old) first clones.old.items)
+        (cloned seen (with_element (frame_at path.old index) fs)
+        (active_of path.old.store active.old) path.old.next) →
+        all ≡ after_clones (clones_at (frames_of path.old) first clones.new.items)
+        (cloned after fs (active_of path.new.store active.new) path.new.next)) }
+    ensures inward { OnOk result ((most : ℕ) → index < most →
+        AreInward (index + 1) most clones.old.items → AreInward index most clones.new.items) }
+    ensures count { OnOk result ((first : ℕ) → path.old.next ≡ first + length clones.old.items →
+        path.new.next ≡ first + length clones.new.items) }
+    ensures seen { IfOk result (λ after. after ≤ seen + 1) }
+    ensures frames { path.new.frames.items ≡ path.old.frames.items }
+    ensures gaps { path.new.gaps ≡ path.old.gaps }
+    ensures store { path.new.store ≡ path.old.store }
+    ensures more { path.old.next ≤ path.new.next }
+    ensures numbered { active.new.greatest_number < path.new.next }
+    ensures tag { active.new.greatest_tag ≡ active.old.greatest_tag }
+    ensures tallied { IsTallied path.new.store active.new }
+{
+    let frame = path.frames[index];
+    if !frame.is_open {
+        return Ok(seen);
+    }
+    if !active.is_listed(frame.number) {
+        return Ok(seen + 1);
+    }
+    if seen > 2 {
+        active.unlist(path, frame.number);
+        return Ok(seen + 1);
+    }
+    let number = path.take_number()?;
+    clones.push(index)?;
+    active.relist(frame.number, number);
+    Ok(seen + 1)
+}
+
+// The places of the elements between the block and the formatting element, which stands right
+// inside of a place, that are made anew, the innermost first. The next numbers are those of the
+// clones.
+fn choose_clones(
+    path: &mut FramePath<'_>,
+    active: &mut ActiveList,
+    place: usize,
+    block: usize,
+) -> Result<Vec<usize>, GrowError>
+    requires order { place + 1 < block }
+    requires block { block < length path.old.frames.items }
+    requires stands { slice_index_or path.old.gaps.marks.items (place + 1) false ≡ false }
+    requires numbered { active.old.greatest_number < path.old.next }
+    requires listed { active.old.greatest_tag < length path.old.store.tags.items }
+    requires tallied { IsTallied path.old.store active.old }
+    ensures ok { IfOk result (λ clones. cloned 0
+        (elements_between (frame_at path.old (place + 1)).number path.old block)
+        (active_of path.old.store active.old) path.old.next
+        ≡ record {
+          frames = clones_at (frames_of path.old) path.old.next clones.items;
+          entries = active_of path.new.store active.new;
+          next = path.new.next;
+        }) }
+    ensures inward { IfOk result (λ clones. AreInward (place + 2) block clones.items) }
+    ensures count { IfOk result (λ clones. path.new.next ≡ path.old.next + length clones.items) }
+    ensures frames { path.new.frames.items ≡ path.old.frames.items }
+    ensures gaps { path.new.gaps ≡ path.old.gaps }
+    ensures store { path.new.store ≡ path.old.store }
+    ensures more { path.old.next ≤ path.new.next }
+    ensures numbered { active.new.greatest_number < path.new.next }
+    ensures tag { active.new.greatest_tag ≡ active.old.greatest_tag }
+    ensures tallied { IsTallied path.new.store active.new }
+{
+    let mut clones = Vec::new(*path.frames.allocator());
+    let mut seen: usize = 0;
+    let mut left = block;
+    while left > place + 2 {
+        left -= 1;
+        seen = choose_at(path, active, &mut clones, left, seen)?;
+    }
+    Ok(clones)
+}
+
 // The new element is listed where the formatting element was, or behind the clone that was made
 // first.
 fn list_new(
@@ -172,8 +266,8 @@ fn list_new(
     active.list_behind(path, first, new, own.tag)
 }
 
-// A round where all between the common ancestor and the block is settled: nothing is made anew, no
-// frame is moved, and the block isn't foster parented.
+// A round where all between the common ancestor and the block is settled where it stands. Clones
+// come to stand there, so no frame is moved. The block isn't foster parented.
 fn adopt_over(
     path: &mut FramePath<'_>,
     active: &mut ActiveList,
@@ -191,9 +285,6 @@ fn adopt_over(
     requires between { (n : ℕ) → place < n → n < block →
         slice_index_or path.old.gaps.marks.items n false ≡ false →
         (frame_at path.old n).place ≡ here }
-    requires unlisted { is_listed_between (active_of path.old.store active.old) own.number path.old
-        block
-        ≡ false }
     requires numbered { active.old.greatest_number < path.old.next }
     requires listed { active.old.greatest_tag < length path.old.store.tags.items }
     requires own { own.tag < length path.old.store.tags.items }
@@ -209,10 +300,13 @@ fn adopt_over(
     ensures tallied { IsTallied path.new.store active.new }
     ensures grows { Grows path.old.store path.new.store }
 {
+    let first = path.next;
+    let clones = choose_clones(path, active, place, block)?;
+    let made = clones.len();
     let new = path.next;
-    path.renew_over(place, block, own.tag)?;
-    active.relist(own.number, new);
-    Ok(0)
+    path.renew_over(place, block, first, clones.as_slice(), own.tag)?;
+    list_new(path, active, own, new, made, first)?;
+    Ok(made)
 }
 
 // A round with a furthest block, wherever it stands.
@@ -312,7 +406,7 @@ pub(crate) fn adopt(
     if path.gaps.count > path.frames.len() / 2 {
         return adopt_whole(path, active, own, block, is_fostering);
     }
-    match path.ancestor_over(active, block, own.number, is_fostering) {
+    match path.ancestor_over(block, own.number, is_fostering) {
         Some(place) => adopt_over(path, active, own, place, block, is_fostering),
         None => adopt_whole(path, active, own, block, is_fostering),
     }

@@ -8,18 +8,16 @@ ghost use Rattle.std.specs.Prelude.{IfOk, IfSome, IsTrue, None, OnOk, Some, [], 
 ghost use Rattle.tl_dom_spec.specs.Adoption.{first, inside_of, moved_place, outermost, outside_of};
 ghost use Rattle.tl_dom_spec.specs.Path.{elements, here, popped_while, top, top_settled};
 ghost use Rattle.tl_dom_spec.specs.Tags.{is_special};
-ghost use Rattle.tl_tree.specs.Inner.Active.{active_of};
-ghost use Rattle.tl_tree.specs.Inner.Adopted.{IsNear, emptied, filled, frame_at, frame_found, innermost_number, is_block, is_inside, is_listed_between, moved, number_of, placed, renewed, renewed_over, shape, with_outer};
-ghost use Rattle.tl_tree.specs.Inner.Entered.{entered, turned};
+ghost use Rattle.tl_tree.specs.Inner.Adopted.{AreInward, IsNear, anew, clones_at, emptied, filled, frame_at, frame_found, innermost_number, is_block, is_inside, moved, number_of, numbers_in, placed, renewed, renewed_over, shape, tags_in, with_outer};
+ghost use Rattle.tl_tree.specs.Inner.Entered.{entered, replaced, turned};
+ghost use Rattle.tl_tree.specs.Inner.Framed as framed;
 ghost use Rattle.tl_tree.specs.Inner.Framed.{are_distinct, goes_here, is_before, is_here};
 ghost use Rattle.tl_tree.specs.Inner.Frames.{around, changed, frame_of, frames_of, is_frame, path_of, place_of};
 ghost use Rattle.tl_tree.specs.Inner.Gone.{there};
 ghost use Rattle.tl_tree.specs.Inner.Roles.{is_numbered};
 ghost use Rattle.tl_tree.specs.Inner.Store.{Grows, is_tag_number, tag_at};
 ghost use Rattle.tl_tree.specs.Inner.Tests.{tag_test_of};
-ghost use Rattle.tl_tree.specs.declared.store.Store.{Store};
 
-use crate::active::ActiveList;
 use crate::error::GrowError;
 use crate::frame::{Frame, Place};
 use crate::path::FramePath;
@@ -96,6 +94,20 @@ impl Scopes {
     {
         if place + 1 < self.len() {
             self.turn(place, new);
+        } else {
+            self.cut(place);
+        }
+    }
+
+    // A new element stands at a place, which is what the next one is, where that may not be known.
+    fn replace_known(&mut self, place: usize, number: u32)
+        requires small { place + 1 < 2 ^ 64 }
+        requires new { list_any (is_numbered number) (entered self.old) ≡ false }
+        ensures { entered self.new
+            ≡ take (length (entered self.new)) (replaced place number (entered self.old)) }
+    {
+        if place + 1 < self.len() {
+            self.replace(place, number);
         } else {
             self.cut(place);
         }
@@ -177,29 +189,17 @@ impl<'a> FramePath<'a> {
         }
     }
 
-    // Whether the frame at a place is gone, or goes to what is right around it and isn't listed.
-    fn is_passed(&self, active: &ActiveList, place: usize) -> bool
+    // Whether the frame at a place is gone, or goes to what is right around it.
+    fn is_passed(&self, place: usize) -> bool
         requires { place < length self.now.frames.items }
-        ensures here { result ≡ true
+        ensures { result ≡ true
             → slice_index_or self.now.gaps.marks.items place false ≡ false
             → (frame_at self.now place).place ≡ here }
-        ensures listed { (s : Store) (k : ℕ) → result ≡ true
-            → (slice_index_or self.now.gaps.marks.items place false ≡ false
-            → (frame_at self.now place).number ≢ k)
-            → is_listed_between (active_of s active.now) k self.now (place + 1)
-            ≡ is_listed_between (active_of s active.now) k self.now place }
     {
         if self.gaps.has(place) {
             return true;
         }
-        let frame = self.frames[place];
-        if !frame.place.is_here() {
-            return false;
-        }
-        if !frame.is_open {
-            return true;
-        }
-        !active.is_listed(frame.number)
+        self.frames[place].place.is_here()
     }
 
     // Whether the frame of a number stands at a place, and is there.
@@ -222,11 +222,9 @@ impl<'a> FramePath<'a> {
     }
 
     /// The place of the common ancestor, where all from the formatting element to the block goes to
-    /// what is right around it, nothing of it is made anew, and what goes to the common ancestor
-    /// isn't foster parented.
+    /// what is right around it, and what goes to the common ancestor isn't foster parented.
     pub(crate) fn ancestor_over(
         &self,
-        active: &ActiveList,
         block: usize,
         number: u32,
         is_fostering: bool,
@@ -241,8 +239,6 @@ impl<'a> FramePath<'a> {
         ensures between { IfSome result (λ place. (n : ℕ) → place < n → n < block →
             slice_index_or self.now.gaps.marks.items n false ≡ false →
             (frame_at self.now n).place ≡ here) }
-        ensures unlisted { (s : Store) → IfSome result (λ place.
-            is_listed_between (active_of s active.now) number self.now block ≡ false) }
     {
         let mut left = block;
         while left > 1 {
@@ -250,7 +246,7 @@ impl<'a> FramePath<'a> {
             if self.is_own(left, number) {
                 return self.own_ancestor(left, is_fostering);
             }
-            if !self.is_passed(active, left) {
+            if !self.is_passed(left) {
                 return None;
             }
         }
@@ -463,6 +459,80 @@ impl<'a> FramePath<'a> {
         Ok(())
     }
 
+    // A new element stands at a place, with the tag of what is at the next one.
+    fn stand_clone(&mut self, place: usize, number: u32)
+        requires within { place + 1 < length self.old.frames.items }
+        requires number { number < self.old.next }
+        requires new { list_any (framed.is_numbered number) self.old.frames.items ≡ false }
+        ensures frames { frames_of self.new
+            ≡ changed place (anew number (frame_at self.old (place + 1)).tag)
+            (frames_of self.old) }
+        ensures others { (n : ℕ) → list_any (framed.is_numbered n) self.old.frames.items ≡ false →
+            n ≢ number → list_any (framed.is_numbered n) self.new.frames.items ≡ false }
+        ensures gaps { self.new.gaps.marks.items
+            ≡ slice_set self.old.gaps.marks.items place false }
+        ensures len { length self.new.frames.items ≡ length self.old.frames.items }
+        ensures next { self.new.next ≡ self.old.next }
+        ensures store { self.new.store ≡ self.old.store }
+    {
+        let inside = self.frames[place + 1];
+        self.scopes.replace_known(place, number);
+        self.gaps.stand(place);
+        self.frames[place] = Frame {
+            number,
+            tag: inside.tag,
+            children: 0,
+            late: 0,
+            waiting: 0,
+            place: Place::Here,
+            is_open: true,
+        };
+    }
+
+    // Where no frame is there between two places, clones come to stand of those that were at these,
+    // each right outside of that: so no frame further in moves, and what is known of it stays so.
+    fn stand_clones(&mut self, place: usize, block: usize, first: u32, clones: &[usize])
+        requires order { place + 1 < block }
+        requires within { block < length self.old.frames.items }
+        requires gone { (n : ℕ) → place < n → n < block →
+            slice_index_or self.old.gaps.marks.items n false ≡ true }
+        requires inward { AreInward (place + 2) block clones.now }
+        requires next { first + length clones.now ≤ self.old.next }
+        requires new { (n : ℕ) → first ≤ n →
+            list_any (framed.is_numbered n) self.old.frames.items ≡ false }
+        ensures path { (n : ℕ) → n + 1 ≡ block → around self.new n
+            ≡ clones_at (frames_of self.old) first clones.now ++ around self.old (place + 1) }
+        ensures marks { drop block self.new.gaps.marks.items
+            ≡ drop block self.old.gaps.marks.items }
+        ensures behind { drop block (frames_of self.new) ≡ drop block (frames_of self.old) }
+        ensures len { length self.new.frames.items ≡ length self.old.frames.items }
+        ensures next { self.new.next ≡ self.old.next }
+        ensures store { self.new.store ≡ self.old.store }
+    {
+        let mut left = clones.len();
+        while left > 0 {
+            left -= 1;
+            self.stand_clone(clones[left] - 1, first + left as u32);
+        }
+    }
+
+    /// A number is given out.
+    pub(crate) fn take_number(&mut self) -> Result<u32, GrowError>
+        ensures number { IfOk result (λ number. number ≡ self.old.next) }
+        ensures next { OnOk result (self.new.next ≡ self.old.next + 1) }
+        ensures more { self.old.next ≤ self.new.next }
+        ensures frames { self.new.frames.items ≡ self.old.frames.items }
+        ensures gaps { self.new.gaps ≡ self.old.gaps }
+        ensures store { self.new.store ≡ self.old.store }
+    {
+        let number = self.next;
+        if number == u32::MAX {
+            return Err(GrowError::TooLarge);
+        }
+        self.next = number + 1;
+        Ok(number)
+    }
+
     // What is settled
 
     // A frame that is there is settled in the one around it, and its place is kept.
@@ -483,6 +553,8 @@ impl<'a> FramePath<'a> {
             (drop (place + 1) (frames_of self.new) ≡ drop (place + 1) (frames_of self.old)) }
         ensures shapes { OnOk result ((n : ℕ) → n < place →
             shape (frame_at self.new n) ≡ shape (frame_at self.old n)) }
+        ensures numbers { OnOk result (numbers_in self.new ≡ numbers_in self.old) }
+        ensures tags { OnOk result (tags_in self.new ≡ tags_in self.old) }
         ensures len { OnOk result
             (length self.new.frames.items ≡ length self.old.frames.items) }
         ensures next { self.new.next ≡ self.old.next }
@@ -519,6 +591,8 @@ impl<'a> FramePath<'a> {
             (drop block (frames_of self.new) ≡ drop block (frames_of self.old)) }
         ensures shape { OnOk result
             (shape (frame_at self.new place) ≡ shape (frame_at self.old place)) }
+        ensures numbers { OnOk result (numbers_in self.new ≡ numbers_in self.old) }
+        ensures tags { OnOk result (tags_in self.new ≡ tags_in self.old) }
         ensures len { OnOk result
             (length self.new.frames.items ≡ length self.old.frames.items) }
         ensures next { self.new.next ≡ self.old.next }
@@ -534,15 +608,21 @@ impl<'a> FramePath<'a> {
         Ok(())
     }
 
-    /// All between two places is settled in what stands at the outer one, and a new element has
-    /// what is in the block. No frame inside of it is moved.
+    /// All between two places is settled in what stands at the outer one, clones of those at these
+    /// places come to stand around the block, and a new element has what is in the block. No frame
+    /// inside of it is moved.
     pub(crate) fn renew_over(
         &mut self,
         place: usize,
         block: usize,
+        first: u32,
+        clones: &[usize],
         tag: u32,
     ) -> Result<(), GrowError>
         requires order { place + 1 < block }
+        requires inward { AreInward (place + 2) block clones.now }
+        requires next { first + length clones.now ≤ self.old.next }
+        requires new { IsTrue (list_all (is_before first) self.old.frames.items) }
         requires within { block < length self.old.frames.items }
         requires open { (frame_at self.old block).is_open ≡ true }
         requires around { (frame_at self.old place).is_open ≡ true }
@@ -553,7 +633,8 @@ impl<'a> FramePath<'a> {
         ensures path { OnOk result (path_of self.new
             ≡ renewed_over (frame_at self.old block) self.old.next (tag_at self.old.store tag)
             (inside_of (frame_at self.old block).number (path_of self.old))
-            (popped_while (is_inside (Some (frame_at self.old place).number))
+            (clones_at (frames_of self.old) first clones.now
+            ++ popped_while (is_inside (Some (frame_at self.old place).number))
             (around self.old block))) }
         ensures top { OnOk result ((top (popped_while
             (is_inside (Some (frame_at self.old place).number))
@@ -564,6 +645,7 @@ impl<'a> FramePath<'a> {
         ensures grows { Grows self.old.store self.new.store }
     {
         self.settle_between(place, block)?;
+        self.stand_clones(place, block, first, clones);
         self.turn(block - 1, tag)
     }
 

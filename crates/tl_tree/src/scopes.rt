@@ -117,7 +117,7 @@ fn set_place(places: &mut Vec<u32>, number: u32, place: u32) -> Result<(), GrowE
 impl Scopes {
     ghost use Rattle.std.specs.List.{list_any};
     ghost use Rattle.std.specs.Prelude.{IfSome, IsErr, None, Some, [], false, map, slice_get, take, true, ◌+◌, ◌++◌, ◌-◌, ◌∷◌};
-    ghost use Rattle.tl_tree.specs.Inner.Entered.{entered, turned};
+    ghost use Rattle.tl_tree.specs.Inner.Entered.{entered, replaced, turned};
     ghost use Rattle.tl_tree.specs.Inner.Roles.{is_numbered, is_within};
 
     /// No element.
@@ -279,5 +279,39 @@ impl Scopes {
         };
         self.places[inside.own.number as usize] = place as u32;
         self.names[new.role.name as usize] = place as u32 + 2;
+    }
+
+    /// The element at a place leaves, and a new one stands there, which is to searches what the
+    /// next one is. So many are known as can be.
+    #[tactic(auto, unfolding(crate::specs::Inner::Entered::entered))]
+    pub(crate) fn replace(&mut self, place: usize, number: u32)
+        requires within { place + 1 < length (entered self.old) }
+        requires new { list_any (is_numbered number) (entered self.old) ≡ false }
+        ensures { entered self.new
+            ≡ take (length (entered self.new)) (replaced place number (entered self.old)) }
+    {
+        let gone = self.entries[place];
+        let inside = self.entries[place + 1];
+        if place >= u32::MAX as usize {
+            self.cut(place);
+            return;
+        }
+        // Without memory for its place less is known, which is no error.
+        let Ok(()) = set_place(&mut self.places, number, place as u32) else {
+            self.cut(place);
+            return;
+        };
+        let role = inside.own.role;
+        let middle = place as u32 + 1;
+        self.entries[place] = Entry {
+            own: Entered { number, role },
+            limits: gone.limits,
+            name: inside.name,
+        };
+        self.entries[place + 1] = Entry {
+            own: inside.own,
+            limits: gone.limits.raised(role, middle),
+            name: middle,
+        };
     }
 }

@@ -1,10 +1,9 @@
 -- The adoption agency algorithm, on frames that are kept the outermost first.
-use Rattle.std.specs.List.{list_any}
 use Rattle.std.specs.Option.{option_map}
-use Rattle.std.specs.Prelude.{Bool, List, None, Option, Some, [], drop, false, length, map, not, reverse, slice_index_or, suc, take, true, if◌then◌else◌, ℕ, ◌&&◌, ◌+◌, ◌++◌, ◌==◌, ◌≡◌, ◌∷◌}
+use Rattle.std.specs.Prelude.{Bool, List, None, Option, Some, [], drop, false, length, map, not, reverse, slice_index_or, suc, take, true, if◌then◌else◌, ℕ, ◌&&◌, ◌+◌, ◌++◌, ◌<◌, ◌==◌, ◌≡◌, ◌≤◌, ◌∷◌}
 use Rattle.tl_dom_spec.specs.Adoption.{Clones, cloned, entry_moved, first, inside_of, moved_into, moved_place, outermost, outside_of, readopted, settled_to}
 use Rattle.tl_dom_spec.specs.Builder.{Entry}
-use Rattle.tl_dom_spec.specs.Formatting.{Listed, is_listed}
+use Rattle.tl_dom_spec.specs.Formatting.{Listed}
 use Rattle.tl_dom_spec.specs.Path.{Frame, Nodes, Path, Place, caught_up, document, elements, here, new_frame, no_nodes, node_of, on_top, place_in, with_nodes}
 use Rattle.tl_dom_spec.specs.Tags.{Tag, is_foster_target}
 use Rattle.tl_tree.specs.Inner.Active.{active_of}
@@ -76,10 +75,32 @@ abbrev pub renewed_over : Frame → ℕ → Tag → Path → Path → Path
 renewed_over block number tag inner outer =
     map (moved block.number number) inner ++ (filled number tag block ∷ emptied block ∷ outer)
 
--- whether one of those is listed that are inside of the element of a number, and outside of a place
-unfoldable pub is_listed_between : List Entry → ℕ → FramePath → ℕ → Bool
-is_listed_between entries k p n =
-    list_any (λ (f : Frame). is_listed f.number entries) (elements (inside_of k (around p n)))
+-- the elements inside of the one of a number, and outside of a place
+unfoldable pub elements_between : ℕ → FramePath → ℕ → List Frame
+elements_between k p n = elements (inside_of k (around p n))
+
+-- clones of what stands at these places, by the numbers from one on
+abbrev pub clones_at : List Frame → ℕ → List ℕ → Path
+clones_at frames next [] = []
+clones_at frames next (n ∷ places) =
+    new_frame next (slice_index_or frames n document).tag here
+    ∷ clones_at frames (suc next) places
+
+-- these places are inside of one, and each is outside of the one before it
+abbrev pub AreInward : ℕ → ℕ → List ℕ → Type 0
+AreInward least most [] = Unit
+AreInward least most (n ∷ places) = (least ≤ n) × (n < most) × AreInward least n places
+
+-- a new element in the place of any other
+abbrev pub anew : ℕ → Tag → Frame → Frame
+anew number tag f = new_frame number tag here
+
+-- what frames are called by, and their tags, the outermost first
+abbrev pub numbers_in : FramePath → List ℕ
+numbers_in p = map (λ (f : Frame). f.number) (frames_of p)
+
+abbrev pub tags_in : FramePath → List Tag
+tags_in p = map (λ (f : Frame). f.tag) (frames_of p)
 
 -- the formatting element goes to what is right outside of it, and what goes there isn't foster
 -- parented

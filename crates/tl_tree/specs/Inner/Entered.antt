@@ -29,3 +29,13 @@ turned_after outer new (inside ∷ inner) = outer ++ inside ∷ new ∷ inner
 
 unfoldable pub turned : ℕ → Entered → List Entered → List Entered
 turned place new elements = turned_after (take place elements) new (drop (suc place) elements)
+
+-- a new element stands at a place, which is to searches what the next one is
+abbrev pub replaced_before : List Entered → ℕ → List Entered → List Entered
+replaced_before outer number [] = outer
+replaced_before outer number (inside ∷ inner) =
+    outer ++ record { number = number; role = inside.role } ∷ inside ∷ inner
+
+unfoldable pub replaced : ℕ → ℕ → List Entered → List Entered
+replaced place number elements =
+    replaced_before (take place elements) number (drop (suc place) elements)

@@ -1,9 +1,8 @@
-use Rattle.std.proofs.Common.{ap, arith, false, get_or, inl, inr, refl, subst, sym, true, ℕ, ◌+◌, ◌-◌, ◌<◌, ◌≡◌, ◌∙◌}
+use Rattle.std.proofs.Common.{ap, arith, false, get_or, inl, inr, subst, sym, ℕ, ◌+◌, ◌-◌, ◌<◌, ◌≡◌, ◌∙◌}
 use Rattle.std.proofs.lemmas.Bool.{cases_lt}
 use Rattle.tl_dom_spec.specs.Path as dom
-use Rattle.tl_tree.proofs.Ancestor.{if-some-both, if-some-weaker, listed-own}
-use Rattle.tl_tree.specs.Inner.Active.{active_of}
-use Rattle.tl_tree.specs.Inner.Adopted.{IsNear, frame_at, is_listed_between}
+use Rattle.tl_tree.proofs.Ancestor.{if-some-both, if-some-weaker}
+use Rattle.tl_tree.specs.Inner.Adopted.{IsNear, frame_at}
 use Rattle.tl_tree.proofs.path.FramePath.ancestor_over.Goals as goal
 
 pub loop-left-init : goal.loop-left-init
@@ -11,7 +10,6 @@ loop-left-init c =
     record {
       bound = omega arith;
       between = λ n least less. absurd (omega arith);
-      listed = λ s. refl;
     }
 
 pub loop-left-preserved : goal.loop-left-preserved
@@ -20,19 +18,14 @@ loop-left-preserved c =
     let m = c.loop-left.left - 1 in
     let bound = c.loop-left.invariant.bound in
     let some = c.loop-left-test.true in
-    let next : m + 1 ≡ c.loop-left.left = omega arith in
     let passed = c.if-not-is_passed.false in
     record {
       bound = omega arith;
       between = λ n least less. elim (cases_lt m n) [
         | inl more ↦ c.loop-left.invariant.between n (omega arith) less
         | inr same ↦ (let is : n ≡ m = omega arith in
-            subst (λ (i : ℕ). get_or p.gaps.marks.items i false ≡ false → (frame_at p i).place ≡ dom.here) (sym is) (c.is_passed.ensures.here passed))
+            subst (λ (i : ℕ). get_or p.gaps.marks.items i false ≡ false → (frame_at p i).place ≡ dom.here) (sym is) (c.is_passed.ensures passed))
       ];
-      listed = λ s.
-          c.loop-left.invariant.listed s
-          ∙ (ap (λ (i : ℕ). is_listed_between (active_of s c.args.active.now) c.args.number p i) (sym next)
-          ∙ c.is_passed.ensures.listed s c.args.number passed (c.is_own.ensures.other c.if-is_own.false));
     }
 
 pub own_ancestor-requires-clause-some : goal.own_ancestor-requires-clause-some
@@ -73,18 +66,3 @@ returns-then-is_own-clause-between c =
       | inr same ↦ (let is : n ≡ m = omega (arith, e) in ap (λ (i : ℕ). (frame_at p i).place) is ∙ near.goes)
     ])
     c.own_ancestor.ensures.outside c.own_ancestor.ensures.near
-
-pub returns-then-is_own-clause-unlisted : goal.returns-then-is_own-clause-unlisted
-returns-then-is_own-clause-unlisted c = λ s.
-    let p = c.args.self.now in
-    let m = c.loop-left.left - 1 in
-    let bound = c.loop-left.invariant.bound in
-    let some = c.loop-left-test.true in
-    let within = c.requires in
-    let next : c.loop-left.left ≡ m + 1 = omega arith in
-    if-some-weaker _ _ c.own_ancestor.result
-    (λ place e.
-    c.loop-left.invariant.listed s
-    ∙ (ap (λ (i : ℕ). is_listed_between (active_of s c.args.active.now) c.args.number p i) next
-    ∙ listed-own (active_of s c.args.active.now) c.args.number p m (omega arith) (c.is_own.ensures.stands c.if-is_own.true) (c.is_own.ensures.own c.if-is_own.true)))
-    c.own_ancestor.ensures.outside

@@ -1,6 +1,6 @@
 use Rattle.std.proofs.Common.{Some, drop, false, get_or, length, true, ℕ, ◌+◌, ◌<◌, ◌≡◌, ◌≤◌}
 use Rattle.tl_dom_spec.specs.Path.{here, popped_while}
-use Rattle.tl_tree.specs.Inner.Adopted.{frame_at, is_inside, shape}
+use Rattle.tl_tree.specs.Inner.Adopted.{frame_at, is_inside, numbers_in, shape, tags_in}
 use Rattle.tl_tree.specs.Inner.Frames.{around, frames_of}
 use Rattle.tl_tree.specs.Inner.Store.{Grows}
 use Rattle.tl_tree.proofs.path.FramePath.settle_between.Given as goal
@@ -18,6 +18,8 @@ invariant-loop-left l =
       marks : drop l.block l.self.gaps.marks.items ≡ drop l.block p.gaps.marks.items;
       behind : drop l.block (frames_of l.self) ≡ drop l.block (frames_of p);
       shape : shape (frame_at l.self l.place) ≡ shape (frame_at p l.place);
+      numbers : numbers_in l.self ≡ numbers_in p;
+      tags : tags_in l.self ≡ tags_in p;
       len : length l.self.frames.items ≡ length p.frames.items;
       next : l.self.next ≡ p.next;
       grows : Grows p.store l.self.store;

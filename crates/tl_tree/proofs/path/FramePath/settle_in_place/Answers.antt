@@ -1,4 +1,4 @@
-use Rattle.std.proofs.Common.{Bool, List, ap, arith, drop, false, get_or, length, suc, sym, ◌+◌, ◌<◌, ◌≡◌, ◌∙◌, ℕ}
+use Rattle.std.proofs.Common.{Bool, List, ap, arith, drop, false, get_or, length, suc, sym, ◌+◌, ◌<◌, ◌≡◌, ◌∙◌, refl, ℕ}
 use Rattle.tl_dom_spec.specs.Path as dom
 use Rattle.tl_dom_spec.specs.Path.{caught_up, with_nodes}
 use Rattle.tl_tree.proofs.FrameParts as parts
@@ -6,7 +6,7 @@ use Rattle.tl_tree.proofs.FrameParts.{grows-on}
 use Rattle.tl_tree.proofs.Furthest.{frame-there}
 use Rattle.tl_tree.proofs.Grown.{grows_trans}
 use Rattle.tl_tree.proofs.Marks.{without-at, without-drop}
-use Rattle.tl_tree.proofs.Over.{length-changed, settled-behind, settled-in-place, settled-shapes, shut-left}
+use Rattle.tl_tree.proofs.Over.{length-changed, settled-behind, settled-in-place, settled-said, settled-shapes, shut-left}
 use Rattle.tl_tree.proofs.Popped.{some-around}
 use Rattle.tl_tree.proofs.Written.{frames-length}
 use Rattle.tl_tree.specs.Inner.Frames.{changed, closed, frames_of}
@@ -220,3 +220,21 @@ returns-clause-grows c =
     let u = c.put_inside.new.self.store in
     let t = c.catch_up.new.self.store in
     grows-on s t c.close.new.self.store (grows_trans s u t (grows_trans s c.element.new.self.store u c.element.ensures.grows c.put_inside.ensures.grows) c.catch_up.ensures.grows) c.close.ensures.store
+
+pub returns-clause-numbers : goal.returns-clause-numbers
+unfolding frames_of
+returns-clause-numbers c =
+    let p = c.args.self.now in
+    let a = c.in-Some.around in
+    let n = c.args.place in
+    let nodes = node_of c.element.new.self.store c.in_ok-node.node in
+    settled-said (λ (f : dom.Frame). f.number) p (frames_of c.close.new.self) a n nodes (λ f. refl) (λ f. refl) (λ f. refl) (c.close.ensures.frames ∙ ap (changed n closed) (c.in_ok-catch_up.ensures.ok ∙ ap (changed a caught_up) (c.in_ok-put_inside.ensures.ok ∙ ap (changed a (with_nodes nodes)) c.in_ok-node.ensures.frames)))
+
+pub returns-clause-tags : goal.returns-clause-tags
+unfolding frames_of
+returns-clause-tags c =
+    let p = c.args.self.now in
+    let a = c.in-Some.around in
+    let n = c.args.place in
+    let nodes = node_of c.element.new.self.store c.in_ok-node.node in
+    settled-said (λ (f : dom.Frame). f.tag) p (frames_of c.close.new.self) a n nodes (λ f. refl) (λ f. refl) (λ f. refl) (c.close.ensures.frames ∙ ap (changed n closed) (c.in_ok-catch_up.ensures.ok ∙ ap (changed a caught_up) (c.in_ok-put_inside.ensures.ok ∙ ap (changed a (with_nodes nodes)) c.in_ok-node.ensures.frames)))
