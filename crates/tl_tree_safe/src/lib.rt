@@ -31,6 +31,7 @@ mod start_tag;
 mod telling;
 mod texts;
 mod told_walk;
+mod value_kind;
 mod values;
 mod walk;
 mod word_lists;
