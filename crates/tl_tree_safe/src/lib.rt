@@ -9,6 +9,7 @@ mod fate;
 mod fitted_rows;
 mod fragment;
 mod kept_rows;
+mod known;
 pub mod laws;
 mod links;
 mod list_changes;
