@@ -13,15 +13,15 @@ use Rattle.tl_tree_safe.specs.InDiv.{div}
 use Rattle.tl_tree_safe.specs.Lists.{ListedWords}
 use Rattle.tl_tree_safe.specs.Removed.{removed}
 use Rattle.tl_c.specs.Puts.{Puts}
-use Rattle.tl_c.specs.Removals.{AreRemovals, GivesSome, IsSome, PutsSome, removals_written}
+use Rattle.tl_c.specs.Removals.{AreRemovals, GivesSome, IsSome, PutsSome, removals_in_bytes}
 
 -- those of the tree of a text are those of the text
 pub of_tree : (p : ListedWords) (text : List ℕ) (tree : Tree) → rows_in tree ≡ rows_of (html_fragment div text) → AreSourced text (fragment_begin standard (context_of div)) tree
-    → (bytes : List ℕ) → bytes ≡ removals_written (source_at tree) (rows_in tree) (removed p (html_fragment div text)) → AreRemovals p text bytes
+    → (bytes : List ℕ) → bytes ≡ removals_in_bytes (source_at tree) (rows_in tree) (removed p (html_fragment div text)) → AreRemovals p text bytes
 of_tree p text tree rows sourced bytes is = record {
   sources = source_at tree;
   are_sources = are_sources text tree rows sourced;
-  bytes_are = is ∙ ap (λ (R : List Row). removals_written (source_at tree) R (removed p (html_fragment div text))) rows;
+  bytes_are = is ∙ ap (λ (R : List Row). removals_in_bytes (source_at tree) R (removed p (html_fragment div text))) rows;
 }
 
 module _ {A X : Type 0} (view : A → List ℕ) (Holds : List ℕ → Type 0) (outcome : Outcome X) where

@@ -1,6 +1,5 @@
 -- What goes of a page by a policy, in bytes for C.
-use Rattle.std.specs.Option.{option_map, unwrap_or}
-use Rattle.std.specs.Prelude.{Err, List, Ok, Option, None, Result, Some, [], flat_map, length, true, ℕ, ◌++◌, ◌≡◌, ◌≢◌}
+use Rattle.std.specs.Prelude.{Err, List, Ok, Option, None, Result, Some, [], length, ℕ, ◌++◌, ◌≡◌, ◌≢◌}
 use Rattle.tl_dom_spec.specs.HtmlTree.{html_fragment}
 use Rattle.tl_page.specs.Outcome.{Fails, Outcome, not_understood, refused, success}
 use Rattle.tl_page.specs.declared.failure.Failure.{Failure}
@@ -9,7 +8,8 @@ use Rattle.tl_tree.specs.declared.source.Source.{Source}
 use Rattle.tl_tree_safe.specs.InDiv.{div}
 use Rattle.tl_tree_safe.specs.Lists.{ListedWords}
 use Rattle.tl_tree_safe.specs.Removed.{Gone, removed}
-use Rattle.tl_tree_safe.specs.RemovedLines.{AreSources, written_name}
+use Rattle.tl_tree_safe.specs.RemovalForms.{Form, removals_written}
+use Rattle.tl_tree_safe.specs.RemovedLines.{AreSources}
 use Rattle.tl_tree_safe.specs.declared.removal.Cause.{Cause}
 use Rattle.tl_tree_safe.specs.declared.removal.Cause.TheVariants.{ForeignTag, MisplacedTag, OpaqueTag, UnlistedKey, UnlistedTag, UnlistedValue}
 use Rattle.tl_c.specs.Nodes.{number_bytes}
@@ -41,26 +41,17 @@ head_bytes source cause name key =
 abbrev pub tag_bytes : Source → Cause → List ℕ → List ℕ → List ℕ
 tag_bytes source cause name key = head_bytes source cause name key ++ (name ++ key)
 
-abbrev pub bytes_of : Source → List ℕ → Gone → List ℕ
+abbrev pub bytes_of : Form
 bytes_of source name gone = tag_bytes source gone.cause name (key_said gone.key)
 
--- of an element that the standard puts in, which nobody wrote, there are none
-abbrev pub removal_bytes : (ℕ → Option Source) → List Row → Gone → List ℕ
-removal_bytes sources rows gone =
-    unwrap_or
-    (option_map
-    (λ source. bytes_of source (written_name rows gone.node) gone)
-    (sources gone.node))
-    []
-
-abbrev pub removals_written : (ℕ → Option Source) → List Row → List Gone → List ℕ
-removals_written sources rows gone = flat_map (removal_bytes sources rows) gone
+abbrev pub removals_in_bytes : (ℕ → Option Source) → List Row → List Gone → List ℕ
+removals_in_bytes = removals_written bytes_of
 
 -- bytes that tell what goes of a text by lists
 pub record AreRemovals (p : ListedWords) (text bytes : List ℕ) : Type 0 where
   pub sources : ℕ → Option Source
   pub are_sources : AreSources text sources
-  pub bytes_are : bytes ≡ removals_written sources (rows_of (html_fragment div text))
+  pub bytes_are : bytes ≡ removals_in_bytes sources (rows_of (html_fragment div text))
       (removed p (html_fragment div text))
 
 -- by lists that are there

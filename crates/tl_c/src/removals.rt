@@ -1,7 +1,7 @@
 //! What goes of a page by a policy.
-ghost use Rattle.std.specs.Prelude.{◌≡◌, ◌≢◌, ◌<◌, ◌++◌, Err, IfOk, IsUtf8, OnOk, length, map, option_copied};
+ghost use Rattle.std.specs.Prelude.{◌≡◌, ◌≢◌, ◌<◌, ◌++◌, Err, IfOk, IsUtf8, OnOk, length, option_copied};
 ghost use Rattle.tl_c.specs.LentLists.{kept_lawful, kept_with, lent_lists, number_of_refusal, refusal_in};
-ghost use Rattle.tl_c.specs.Removals.{AreRemovals, AreRemovalsBy, GivesSome, head_bytes, key_said, number_of_cause, removal_bytes, removals_written, tag_bytes};
+ghost use Rattle.tl_c.specs.Removals.{AreRemovals, AreRemovalsBy, GivesSome, head_bytes, key_said, number_of_cause, removals_in_bytes, tag_bytes};
 ghost use Rattle.tl_c.specs.SafePages.{kept_page};
 ghost use Rattle.tl_dom_spec.specs.HtmlForest.{HtmlForest};
 ghost use Rattle.tl_html_spec.specs.HtmlTokenizer.{without_mark};
@@ -12,8 +12,7 @@ ghost use Rattle.tl_tree.specs.TreeView.{rows_in};
 ghost use Rattle.tl_tree_safe.specs.ListOptions.{lists_in};
 ghost use Rattle.tl_tree_safe.specs.OfPolicy.{lists_of};
 ghost use Rattle.tl_tree_safe.specs.Refusals.{first_refusal};
-ghost use Rattle.tl_tree_safe.specs.Removed.{gone_of, removed};
-ghost use Rattle.tl_tree_safe.specs.RemovedLines.{written_name};
+ghost use Rattle.tl_tree_safe.specs.Removed.{removed};
 
 use crate::attribute::write_number;
 use crate::lent_lists::LentLists;
@@ -23,7 +22,7 @@ use std::alloc::{AllocError, Global};
 use tl_page::{Failure, text};
 use tl_tree::{Source, Tree};
 use tl_tree_safe::{
-    Cause, Policy, Removal, WordLists, read_in_div, sanitize_telling, without_mark,
+    Cause, Policy, Removal, RemovalForm, WordLists, print_telling, read_in_div, without_mark,
 };
 
 // The number of a cause in `tl.h`.
@@ -38,13 +37,6 @@ fn number_of_cause(cause: Cause) -> usize
         Cause::UnlistedKey => 5,
         Cause::UnlistedValue => 6,
     }
-}
-
-// The name of an element, and nothing of another node.
-fn written_name<'t>(tree: &'t Tree<'_>, number: usize) -> &'t [u8]
-    ensures { result.now ≡ written_name (rows_in tree.now) number }
-{
-    tree.name(number).unwrap_or(b"")
 }
 
 // The key of an attribute, and nothing where the element itself goes.
@@ -91,33 +83,24 @@ fn write_tag(
     out.extend_from_slice(key)
 }
 
-// The same of what goes, if its tag was written.
-fn write_removal(tree: &Tree<'_>, removal: Removal<'_>, out: &mut Vec<u8>) -> Result<(), AllocError>
-    ensures { OnOk result (out.new.items ≡ out.old.items
-        ++ removal_bytes (source_at tree.now) (rows_in tree.now) (gone_of removal.entry)) }
-{
-    let Some(source) = tree.source(removal.node) else {
-        return Ok(());
-    };
-    let name = written_name(tree, removal.node);
-    let key = key_said(removal.key);
-    write_tag(&source, removal.cause, name, key, out)
-}
+// Removals as `tl.h` says them.
+#[derive(Clone, Copy)]
+pub(crate) struct Records;
 
-// What goes of a tree, written.
-fn write_removals(
-    alloc: Global,
-    tree: &Tree<'_>,
-    removals: &[Removal<'_>],
-) -> Result<Vec<u8>, AllocError>
-    ensures { IfOk result (λ bytes. bytes.items ≡ removals_written (source_at tree.now)
-        (rows_in tree.now) (map gone_of removals.now)) }
-{
-    let mut out = Vec::new(alloc);
-    for removal in removals {
-        write_removal(tree, *removal, &mut out)?;
+impl RemovalForm for Records {
+    ghost use Rattle.tl_c.specs.Removals.{bytes_of};
+
+    ghost written = { λ form source name gone. bytes_of source name gone };
+
+    fn write(
+        &self,
+        source: &Source,
+        name: &[u8],
+        removal: Removal<'_>,
+        out: &mut Vec<u8>,
+    ) -> Result<(), AllocError> {
+        write_tag(source, removal.cause, name, key_said(removal.key), out)
     }
-    Ok(out)
 }
 
 // What goes of a tree.
@@ -127,13 +110,11 @@ fn removals_of_tree(
     tree: &Tree<'_>,
 ) -> Result<Vec<u8>, AllocError>
     ensures { (trees : HtmlForest) → rows_in tree.now ≡ rows_of trees → IfOk result (λ bytes.
-        bytes.items ≡ removals_written (source_at tree.now) (rows_in tree.now)
+        bytes.items ≡ removals_in_bytes (source_at tree.now) (rows_in tree.now)
         (removed (lists_of policy.now) trees)) }
 {
-    let mut page = Vec::new(alloc);
-    let mut removals = Vec::new(alloc);
-    sanitize_telling(alloc, policy, tree, &mut page, &mut removals)?;
-    write_removals(alloc, tree, removals.as_slice())
+    let told = print_telling(alloc, policy, tree, &Records)?;
+    Ok(told.lines)
 }
 
 // What goes of a page by a policy.

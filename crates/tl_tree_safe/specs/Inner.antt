@@ -5,6 +5,7 @@ pub mod Classes
 pub mod Pass
 pub mod Levels
 pub mod Staying
+pub mod ValueKinds
 pub mod Walk
 pub mod Telling
 pub mod Roles

@@ -21,4 +21,5 @@ pub mod InDiv
 pub mod Removed
 pub mod Causes
 pub mod ShownNames
+pub mod RemovalForms
 pub mod RemovedLines

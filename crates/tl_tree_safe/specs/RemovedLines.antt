@@ -1,16 +1,16 @@
 -- What went of a text, told in lines: `FILE:LINE:COLUMN: <NAME KEY>: WHY`.
 use Rattle.std.specs.Fmt.{decimal}
-use Rattle.std.specs.Option.{option_and_then, option_map, unwrap_or}
-use Rattle.std.specs.Prelude.{List, None, Option, Some, [], codes, flat_map, length, ℕ, ◌++◌, ◌∷◌, ◌≡◌, ◌≤◌}
+use Rattle.std.specs.Prelude.{List, None, Option, Some, [], codes, length, ℕ, ◌++◌, ◌∷◌, ◌≡◌, ◌≤◌}
 use Rattle.tl_dom_spec.specs.HtmlTree.{context_of, html_fragment, standard}
 use Rattle.tl_lines.specs.Lines.{column_at, line_at}
-use Rattle.tl_tree.specs.Asked.{name_of, node_at}
+use Rattle.tl_tree.specs.Asked.{node_at}
 use Rattle.tl_tree.specs.Rows.{Node, Row, rows_of}
 use Rattle.tl_tree.specs.Sources.{IsSourceOf, Reached, Reads, fragment_begin}
 use Rattle.tl_tree.specs.declared.source.Source.{Source}
 use Rattle.tl_tree_safe.specs.Causes.{cause_words}
 use Rattle.tl_tree_safe.specs.InDiv.{div}
 use Rattle.tl_tree_safe.specs.Lists.{ListedWords}
+use Rattle.tl_tree_safe.specs.RemovalForms.{removals_written}
 use Rattle.tl_tree_safe.specs.Removed.{Gone, removed}
 use Rattle.tl_tree_safe.specs.ShownNames.{shown}
 
@@ -34,23 +34,9 @@ line_of file text source name gone =
     file ++ 58 ∷ (place_words text source.start
     ++ (tag_words name gone.key ++ (cause_words gone.cause ++ 10 ∷ [])))
 
-abbrev pub written_name : List Row → ℕ → List ℕ
-written_name rows number = unwrap_or (option_and_then name_of (node_at rows number)) []
-
--- of an element that the standard puts in, which nobody wrote, there is none
-abbrev pub removed_line :
-    List ℕ → List ℕ → (ℕ → Option Source) → List Row → Gone → List ℕ
-removed_line file text sources rows gone =
-    unwrap_or
-    (option_map
-    (λ source. line_of file text source (written_name rows gone.node) gone)
-    (sources gone.node))
-    []
-
 abbrev pub removed_lines :
     List ℕ → List ℕ → (ℕ → Option Source) → List Row → List Gone → List ℕ
-removed_lines file text sources rows gone =
-    flat_map (removed_line file text sources rows) gone
+removed_lines file text = removals_written (line_of file text)
 
 -- where in a text that is read as what a `div` holds each row comes from
 pub record AreSources (text : List ℕ) (sources : ℕ → Option Source) : Type 0 where

@@ -5,11 +5,13 @@ ghost use Rattle.tl_html_print.specs.Serialized.{serialized_attribute};
 ghost use Rattle.tl_safe_fit.specs.Words.{is_among};
 ghost use Rattle.tl_tree.specs.Asked.{attribute_said, attributes_at};
 ghost use Rattle.tl_tree.specs.TreeView.{rows_in};
-ghost use Rattle.tl_tree_safe.specs.Inner.Attributes.{listed_written, with_value};
-ghost use Rattle.tl_tree_safe.specs.Kept.{has_no_space, is_listed_attribute, kept_attribute, kept_attributes};
+ghost use Rattle.tl_tree_safe.specs.Inner.Attributes.{listed_written, pair_where, value_written};
+ghost use Rattle.tl_tree_safe.specs.Kept.{has_no_space, is_listed_attribute, kept_attribute, kept_attributes, kept_value};
+ghost use Rattle.tl_tree_safe.specs.Lists.{is_listed_value};
 ghost use Rattle.tl_tree_safe.specs.Policies.{listed_words};
 
 use crate::lists::Lists;
+use crate::value_kind::value_kind_at;
 use crate::values::{kept_value, stays_whole};
 use crate::words::is_among;
 use std::alloc::{AllocError, Global};
@@ -22,14 +24,6 @@ pub(crate) fn is_listed_key(lists: &Lists<'_>, attribute: &Attribute<'_>) -> boo
         && is_among (listed_words lists.now).keys attribute.now.key.now) }
 {
     matches!(attribute.space, AttributeSpace::Plain) && is_among(lists.keys, attribute.key)
-}
-
-// Whether an attribute may stand with a value.
-fn is_listed(lists: &Lists<'_>, attribute: &Attribute<'_>, value: &[u8]) -> bool
-    ensures { result ≡ is_listed_attribute (listed_words lists.now)
-        (with_value (attribute_said attribute.now) value.now) }
-{
-    is_listed_key(lists, attribute) && lists.lists_value(attribute.key, value)
 }
 
 // Writes a key with its value.
@@ -45,20 +39,22 @@ fn write_pair(key: &[u8], value: &[u8], out: &mut Vec<u8>) -> Result<(), AllocEr
     Ok(())
 }
 
-// Writes an attribute with a value, where it may stand.
-fn write_listed(
+// Whether a value at a listed key may stand with what stays of it.
+fn value_stands(
+    alloc: Global,
     lists: &Lists<'_>,
-    attribute: &Attribute<'_>,
+    key: &[u8],
     value: &[u8],
-    out: &mut Vec<u8>,
-) -> Result<(), AllocError>
-    ensures { OnOk result (out.new.items ≡ out.old.items ++ listed_written
-        (listed_words lists.now) (with_value (attribute_said attribute.now) value.now)) }
+) -> Result<bool, AllocError>
+    ensures { IfOk result (λ stands. stands ≡ is_listed_value (listed_words lists.now) key.now
+        (kept_value (listed_words lists.now) key.now value.now)) }
 {
-    if !is_listed(lists, attribute, value) {
-        return Ok(());
+    let kind = value_kind_at(lists, key);
+    if stays_whole(lists, kind, value) {
+        return Ok(lists.lists_whole(kind, key, value));
     }
-    write_pair(attribute.key, value, out)
+    let kept = kept_value(alloc, lists, kind, value)?;
+    Ok(lists.lists_by(kind, key, &kept))
 }
 
 /// Whether an attribute may stand with what stays of its value.
@@ -70,11 +66,39 @@ pub(crate) fn is_kept(
     ensures { IfOk result (λ kept. kept ≡ is_listed_attribute (listed_words lists.now)
         (kept_attribute (listed_words lists.now) (attribute_said attribute.now))) }
 {
-    if stays_whole(lists, attribute.key, attribute.value) {
-        return Ok(is_listed(lists, attribute, attribute.value));
+    if !is_listed_key(lists, attribute) {
+        return Ok(false);
     }
-    let value = kept_value(alloc, lists, attribute.key, attribute.value)?;
-    Ok(is_listed(lists, attribute, &value))
+    value_stands(alloc, lists, attribute.key, attribute.value)
+}
+
+// Writes a key with a value, where it may stand.
+fn write_where(stands: bool, key: &[u8], value: &[u8], out: &mut Vec<u8>) -> Result<(), AllocError>
+    ensures { OnOk result (out.new.items ≡ out.old.items ++ pair_where stands key.now value.now) }
+{
+    if !stands {
+        return Ok(());
+    }
+    write_pair(key, value, out)
+}
+
+// Writes a listed key with what stays of its value, where this may stand.
+fn write_value(
+    alloc: Global,
+    lists: &Lists<'_>,
+    key: &[u8],
+    value: &[u8],
+    out: &mut Vec<u8>,
+) -> Result<(), AllocError>
+    ensures { OnOk result (out.new.items ≡ out.old.items
+        ++ value_written (listed_words lists.now) key.now value.now) }
+{
+    let kind = value_kind_at(lists, key);
+    if stays_whole(lists, kind, value) {
+        return write_where(lists.lists_whole(kind, key, value), key, value, out);
+    }
+    let kept = kept_value(alloc, lists, kind, value)?;
+    write_where(lists.lists_by(kind, key, &kept), key, &kept, out)
 }
 
 /// Writes what stays of an attribute.
@@ -88,11 +112,10 @@ pub(crate) fn write_attribute(
         (listed_words lists.now)
         (kept_attribute (listed_words lists.now) (attribute_said attribute.now))) }
 {
-    if stays_whole(lists, attribute.key, attribute.value) {
-        return write_listed(lists, attribute, attribute.value, out);
+    if !is_listed_key(lists, attribute) {
+        return Ok(());
     }
-    let value = kept_value(alloc, lists, attribute.key, attribute.value)?;
-    write_listed(lists, attribute, &value, out)
+    write_value(alloc, lists, attribute.key, attribute.value, out)
 }
 
 /// Writes what stays of the attributes of an element.

@@ -74,9 +74,6 @@ fn has_spaces_alone(value: &[u8]) -> bool
 pub(crate) fn are_classes(patterns: &[&str], value: &[u8]) -> bool
     ensures { result ≡ are_classes (words_of patterns.now) value.now }
 {
-    if !has_spaces_alone(value) {
-        return false;
-    }
     let mut rest = Some(value);
     while let Some(all) = rest {
         let (word, more) = split_at_space(all);
@@ -85,7 +82,7 @@ pub(crate) fn are_classes(patterns: &[&str], value: &[u8]) -> bool
         }
         rest = more;
     }
-    true
+    has_spaces_alone(value)
 }
 
 // Writes a word behind others.

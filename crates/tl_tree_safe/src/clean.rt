@@ -44,6 +44,16 @@ pub(crate) fn clean(alloc: Global, bytes: &[u8]) -> Result<Vec<u8>, AllocError>
     Ok(kept)
 }
 
+/// What stays of bytes: they themselves, where all of them do.
+pub(crate) fn clean_owned(alloc: Global, bytes: Vec<u8>) -> Result<Vec<u8>, AllocError>
+    ensures { IfOk result (λ kept. kept.items ≡ cleaned bytes.items) }
+{
+    if is_clean(&bytes) {
+        return Ok(bytes);
+    }
+    clean(alloc, &bytes)
+}
+
 /// Writes what stays of a text, or of the value of an attribute, as the standard serializes it.
 pub fn write_cleaned(
     alloc: Global,

@@ -6,9 +6,8 @@ ghost use Rattle.tl_html_print.specs.Inner.Printed.{html_name_at};
 ghost use Rattle.tl_tree_safe.specs.Inner.Walk.{fate_at, is_passed, listed_fate, named_fate};
 ghost use Rattle.tl_tree_safe.specs.Policies.{listed_words};
 
-use crate::lists::Lists;
+use crate::known::Known;
 use crate::names::is_opaque;
-use crate::words::is_among;
 use tl_safe_fit::{Kind, Level, has_room_here, is_void_kind, kind_of};
 use tl_tree::{Namespace, Tree};
 
@@ -50,10 +49,10 @@ fn listed_fate(level: &Level, kind: Kind) -> Fate
 }
 
 // What becomes of an element of HTML of a name.
-fn named_fate(lists: &Lists<'_>, level: &Level, name: &[u8]) -> Fate
-    ensures { result ≡ named_fate (listed_words lists.now) level.now name.now }
+fn named_fate(known: &Known<'_>, level: &Level, name: &[u8]) -> Fate
+    ensures { result ≡ named_fate (listed_words known.now.lists) level.now name.now }
 {
-    if is_among(lists.tags, name) {
+    if known.lists_tag(name) {
         listed_fate(level, kind_of(name))
     } else if is_opaque(name) {
         Fate::Goes
@@ -73,11 +72,11 @@ pub(crate) fn html_name<'t>(tree: &'t Tree<'_>, number: usize) -> Option<&'t [u8
 }
 
 /// What becomes of an element where there is room for these.
-pub(crate) fn fate_of(lists: &Lists<'_>, level: &Level, tree: &Tree<'_>, number: usize) -> Fate
-    ensures { result ≡ fate_at (listed_words lists.now) (rows_in tree.now) level.now number }
+pub(crate) fn fate_of(known: &Known<'_>, level: &Level, tree: &Tree<'_>, number: usize) -> Fate
+    ensures { result ≡ fate_at (listed_words known.now.lists) (rows_in tree.now) level.now number }
 {
     match html_name(tree, number) {
-        Some(name) => named_fate(lists, level, name),
+        Some(name) => named_fate(known, level, name),
         None => Fate::Goes,
     }
 }

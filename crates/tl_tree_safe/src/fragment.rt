@@ -16,13 +16,16 @@ ghost use Rattle.tl_tree_safe.specs.KeptFitted.{kept_fitted};
 ghost use Rattle.tl_tree_safe.specs.Listed.{are_listed};
 ghost use Rattle.tl_tree.specs.Sources.{AreSourced, fragment_begin, source_at};
 ghost use Rattle.tl_tree_safe.specs.OfPolicy.{lists_of};
+ghost use Rattle.tl_tree_safe.specs.RemovalForms.{removals_written};
 ghost use Rattle.tl_tree_safe.specs.Removed.{removed};
 ghost use Rattle.tl_tree_safe.specs.RemovedLines.{TellRemoved, removed_lines};
 
 use crate::policy::Policy;
-use crate::removed_lines::lines_of_removals;
+use crate::removal_form::{RemovalForm, removals_in};
+use crate::removed_lines::Lines;
 use crate::sanitizer::{sanitize, sanitize_telling};
 use std::alloc::{AllocError, Global};
+use tl_lines::LineIndex;
 use tl_tree::{Context, Flags, Namespace, ReadError, Tree};
 
 /// A page without its byte order mark, which is no part of its text.
@@ -107,15 +110,36 @@ pub fn sanitize_fragment(
     Ok(page)
 }
 
-/// What is printed of a text, and lines that tell what went of it.
+/// What is printed of a text, and what is told of what went of it: lines, or another form.
 #[derive(Drop)]
 pub struct ToldPage {
     pub page: Vec<u8>,
     pub lines: Vec<u8>,
 }
 
-// Prints what a policy keeps of the tree of a text, and tells what goes.
-fn print_telling(
+/// Prints what a policy keeps of a tree, and tells what goes in a form.
+pub fn print_telling<F: RemovalForm>(
+    alloc: Global,
+    policy: &Policy<'_>,
+    tree: &Tree<'_>,
+    form: &F,
+) -> Result<ToldPage, AllocError>
+    ensures print { (trees : HtmlForest) → rows_in tree.now ≡ rows_of trees →
+        IfOk result (λ told. told.page.items
+        ≡ serialized false None (kept_fitted (lists_of policy.now) trees)) }
+    ensures told { (trees : HtmlForest) → rows_in tree.now ≡ rows_of trees →
+        IfOk result (λ told. told.lines.items ≡ removals_written (F.written form.now)
+        (source_at tree.now) (rows_in tree.now) (removed (lists_of policy.now) trees)) }
+{
+    let mut page = Vec::new(alloc);
+    let mut removals = Vec::new(alloc);
+    sanitize_telling(alloc, policy, tree, &mut page, &mut removals)?;
+    let lines = removals_in(alloc, form, tree, &removals)?;
+    Ok(ToldPage { page, lines })
+}
+
+// Prints what a policy keeps of the tree of a text, and tells what goes in lines.
+fn print_lines(
     alloc: Global,
     policy: &Policy<'_>,
     tree: &Tree<'_>,
@@ -125,15 +149,12 @@ fn print_telling(
     ensures print { (trees : HtmlForest) → rows_in tree.now ≡ rows_of trees →
         IfOk result (λ told. told.page.items
         ≡ serialized false None (kept_fitted (lists_of policy.now) trees)) }
-    ensures lines { (trees : HtmlForest) → rows_in tree.now ≡ rows_of trees →
+    ensures told { (trees : HtmlForest) → rows_in tree.now ≡ rows_of trees →
         IfOk result (λ told. told.lines.items ≡ removed_lines file.now text.now
         (source_at tree.now) (rows_in tree.now) (removed (lists_of policy.now) trees)) }
 {
-    let mut page = Vec::new(alloc);
-    let mut removals = Vec::new(alloc);
-    sanitize_telling(alloc, policy, tree, &mut page, &mut removals)?;
-    let lines = lines_of_removals(alloc, tree, text, file, &removals)?;
-    Ok(ToldPage { page, lines })
+    let index = LineIndex::new(alloc, text)?;
+    print_telling(alloc, policy, tree, &Lines { alloc, index, file })
 }
 
 /// Prints what `sanitize_fragment` prints of a text, and tells what goes of what was written in it:
@@ -155,7 +176,7 @@ pub fn sanitize_fragment_telling(
     ensures told { IfErr result (IsUnreadInDiv text.now) }
 {
     let tree = read_in_div(alloc, text)?;
-    match print_telling(alloc, policy, &tree, text, file) {
+    match print_lines(alloc, policy, &tree, text, file) {
         Ok(told) => Ok(told),
         Err(AllocError) => Err(ReadError::OutOfMemory),
     }

@@ -9,6 +9,7 @@ mod fate;
 mod fitted_rows;
 mod fragment;
 mod kept_rows;
+mod known;
 pub mod laws;
 mod links;
 mod list_changes;
@@ -23,6 +24,7 @@ mod reasons;
 mod refusal;
 mod refused;
 mod removal;
+mod removal_form;
 mod removed_lines;
 mod removed_rows;
 mod sanitizer;
@@ -31,6 +33,7 @@ mod start_tag;
 mod telling;
 mod texts;
 mod told_walk;
+mod value_kind;
 mod values;
 mod walk;
 mod word_lists;
@@ -40,11 +43,13 @@ mod writer;
 pub use attributes::write_attributes;
 pub use clean::write_cleaned;
 pub use fragment::{
-    ToldPage, read_in_div, sanitize_fragment, sanitize_fragment_telling, without_mark,
+    ToldPage, print_telling, read_in_div, sanitize_fragment, sanitize_fragment_telling,
+    without_mark,
 };
 pub use lists::Lists;
 pub use policy::Policy;
 pub use refusal::{PolicyError, Reason};
 pub use removal::{Cause, Removal};
+pub use removal_form::RemovalForm;
 pub use sanitizer::{sanitize, sanitize_telling};
 pub use word_lists::{ListTexts, WordLists, lines_of};

@@ -1,6 +1,7 @@
 //! Lists of words, by which it is judged what may stand.
 ghost use Rattle.std.specs.Prelude.{◌≡◌};
 ghost use Rattle.std.specs.List.{list_all, starts_with};
+ghost use Rattle.tl_tree_safe.specs.Inner.ValueKinds.{are_listed_names, is_also_listed, is_listed_by, is_listed_front, is_listed_whole};
 ghost use Rattle.tl_tree_safe.specs.Lists.{is_listed_link, is_listed_value, is_own_byte, is_own_name};
 ghost use Rattle.tl_tree_safe.specs.Policies.{listed_words};
 
@@ -8,7 +9,7 @@ use crate::classes::are_classes;
 use crate::links::{begins_link, has_link_bytes, is_relative};
 use crate::names::{is_naming_key, is_referring_key};
 use crate::own_names::{all_begin, leads_to_own};
-use crate::words::is_among;
+use crate::value_kind::{ValueKind, value_kind_at};
 
 /// What a policy lists. Lists of your own begin best with others, as
 /// `Lists { tags: &["b", "p"], ..Lists::BLOG }`.
@@ -61,13 +62,18 @@ fn has_own_bytes(value: &[u8]) -> bool
 }
 
 impl<'w> Lists<'w> {
+    // Whether a link begins as links may.
+    fn lists_front(&self, value: &[u8]) -> bool
+        ensures { result ≡ is_listed_front (listed_words self.now) value.now }
+    {
+        begins_link(self.link_prefixes, value) || (self.relative_links && is_relative(value))
+    }
+
     // Whether a value is a link that may stand.
     fn lists_link(&self, value: &[u8]) -> bool
         ensures { result ≡ is_listed_link (listed_words self.now) value.now }
     {
-        (begins_link(self.link_prefixes, value) || (self.relative_links && is_relative(value)))
-            && has_link_bytes(value)
-            && leads_to_own(self, value)
+        self.lists_front(value) && has_link_bytes(value) && leads_to_own(self, value)
     }
 
     // Whether a value is one word with the prefix.
@@ -77,13 +83,49 @@ impl<'w> Lists<'w> {
         value.starts_with(self.id_prefix.as_bytes()) && has_own_bytes(value)
     }
 
+    // Whether the names in a value may stand at its key.
+    fn lists_names(&self, key: &[u8], value: &[u8]) -> bool
+        ensures { result ≡ are_listed_names (listed_words self.now) key.now value.now }
+    {
+        (!is_naming_key(key) || self.has_prefix(value))
+            && (!is_referring_key(key) || all_begin(self.id_prefix.as_bytes(), value))
+    }
+
+    // Whether a link may stand at a key at which names or classes may stand too.
+    fn also_lists(&self, key: &[u8], value: &[u8]) -> bool
+        ensures { result ≡ is_also_listed (listed_words self.now) key.now value.now }
+    {
+        self.lists_names(key, value)
+            && (key != b"class".as_slice() || are_classes(self.classes, value))
+    }
+
+    /// Whether a value of a kind, as its characters, may stand at a key.
+    pub(crate) fn lists_by(&self, kind: ValueKind, key: &[u8], value: &[u8]) -> bool
+        ensures { result ≡ is_listed_by (listed_words self.now) kind key.now value.now }
+    {
+        match kind {
+            ValueKind::Link => self.lists_link(value) && self.also_lists(key, value),
+            ValueKind::Classes => are_classes(self.classes, value),
+            ValueKind::Names => self.lists_names(key, value),
+            ValueKind::Text => true,
+        }
+    }
+
+    /// The same of a value of which all stays: what is known of it then isn't looked at again.
+    pub(crate) fn lists_whole(&self, kind: ValueKind, key: &[u8], value: &[u8]) -> bool
+        ensures { result ≡ is_listed_whole (listed_words self.now) kind key.now value.now }
+    {
+        match kind {
+            ValueKind::Link => self.lists_front(value) && self.also_lists(key, value),
+            ValueKind::Names => self.lists_names(key, value),
+            ValueKind::Classes | ValueKind::Text => true,
+        }
+    }
+
     /// Whether a value, as its characters, may stand at a key.
     pub fn lists_value(&self, key: &[u8], value: &[u8]) -> bool
         ensures { result ≡ is_listed_value (listed_words self.now) key.now value.now }
     {
-        (!is_among(self.link_keys, key) || self.lists_link(value))
-            && (!is_naming_key(key) || self.has_prefix(value))
-            && (key != b"class".as_slice() || are_classes(self.classes, value))
-            && (!is_referring_key(key) || all_begin(self.id_prefix.as_bytes(), value))
+        self.lists_by(value_kind_at(self, key), key, value)
     }
 }

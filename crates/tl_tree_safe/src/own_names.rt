@@ -1,5 +1,6 @@
 //! Names that others refer to, with the policy's prefix in front.
 ghost use Rattle.std.specs.Prelude.{IfOk, OnOk, false, ◌++◌, ◌≡◌};
+ghost use Rattle.tl_tree_safe.specs.Inner.ValueKinds.{lacks_front};
 ghost use Rattle.tl_tree_safe.specs.Lists.{all_begin, has_front, leads_to_own};
 ghost use Rattle.tl_tree_safe.specs.Policies.{listed_words};
 ghost use Rattle.tl_tree_safe.specs.Values.{front_of, own_link, prefixed, says_names};
@@ -63,12 +64,23 @@ fn front_of<'p>(prefix: &'p [u8], in_word: bool, text: &[u8]) -> &'p [u8]
     }
 }
 
-/// Writes a text with a prefix in front of each word that hasn't it.
-pub(crate) fn write_prefixed(
-    prefix: &[u8],
-    text: &[u8],
-    out: &mut Vec<u8>,
-) -> Result<(), AllocError>
+// Whether a text is one word, and a prefix isn't at its front.
+fn lacks_front(prefix: &[u8], text: &[u8]) -> bool
+    ensures { result ≡ lacks_front prefix.now text.now }
+{
+    if has_front(prefix, false, text) {
+        return false;
+    }
+    for byte in text {
+        if is_space(*byte) {
+            return false;
+        }
+    }
+    true
+}
+
+// Writes a text word by word, with a prefix in front of each word that hasn't it.
+fn write_words(prefix: &[u8], text: &[u8], out: &mut Vec<u8>) -> Result<(), AllocError>
     ensures { OnOk result (out.new.items ≡ out.old.items ++ prefixed prefix.now false text.now) }
 {
     let mut rest = text;
@@ -79,6 +91,22 @@ pub(crate) fn write_prefixed(
         in_word = !is_space(*byte);
         rest = more;
     }
+    Ok(())
+}
+
+/// Writes a text with a prefix in front of each word that hasn't it.
+pub(crate) fn write_prefixed(
+    prefix: &[u8],
+    text: &[u8],
+    out: &mut Vec<u8>,
+) -> Result<(), AllocError>
+    ensures { OnOk result (out.new.items ≡ out.old.items ++ prefixed prefix.now false text.now) }
+{
+    if !lacks_front(prefix, text) {
+        return write_words(prefix, text, out);
+    }
+    out.extend_from_slice(prefix)?;
+    out.extend_from_slice(text)?;
     Ok(())
 }
 

@@ -8,6 +8,7 @@ ghost use Rattle.tl_tree_safe.specs.KeptFitted.{kept_fitted};
 ghost use Rattle.tl_tree_safe.specs.OfPolicy.{lists_of};
 ghost use Rattle.tl_tree_safe.specs.Removed.{gone_of, removed};
 
+use crate::known::Known;
 use crate::policy::Policy;
 use crate::removal::Removal;
 use crate::told_walk::write_telling;
@@ -16,8 +17,8 @@ use std::alloc::{AllocError, Global};
 use tl_tree::Tree;
 
 /// Writes what a policy keeps of a tree, made to stay as it is once a browser reads it. Its time is
-/// linear in the tree, and it takes memory for elements that are open, and for texts and values
-/// that hold what goes.
+/// linear in the tree. It takes memory for an index of the tags, for elements that are open, and for
+/// texts and values that hold what goes.
 pub fn sanitize(
     alloc: Global,
     policy: &Policy<'_>,
@@ -28,7 +29,8 @@ pub fn sanitize(
         OnOk result (out.new.items ≡ out.old.items
         ++ serialized false None (kept_fitted (lists_of policy.now) trees)) }
 {
-    write_walked(alloc, &policy.lists, tree, out)
+    let known = Known::new(alloc, &policy.lists)?;
+    write_walked(alloc, &known, tree, out)
 }
 
 /// Writes what `sanitize` does, and tells what goes, in the order of the page: each element that
@@ -49,5 +51,6 @@ pub fn sanitize_telling<'t>(
         OnOk result (map gone_of told.new.items ≡ map gone_of told.old.items
         ++ removed (lists_of policy.now) trees) }
 {
-    write_telling(alloc, &policy.lists, tree, out, told)
+    let known = Known::new(alloc, &policy.lists)?;
+    write_telling(alloc, &known, tree, out, told)
 }

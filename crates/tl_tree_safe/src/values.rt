@@ -1,17 +1,18 @@
 //! Values, as what they say at their keys.
 ghost use Rattle.std.specs.List.{filter};
 ghost use Rattle.std.specs.Prelude.{IfOk, ◌≡◌};
-ghost use Rattle.tl_tree_safe.specs.Inner.Staying.{is_low, is_read_so, is_said_so, stays_whole};
-ghost use Rattle.tl_tree_safe.specs.Kept.{kept_value};
+ghost use Rattle.tl_tree_safe.specs.Inner.Staying.{is_low, is_read_so};
+ghost use Rattle.tl_tree_safe.specs.Inner.ValueKinds.{kept_value_by, stays_by};
 ghost use Rattle.tl_tree_safe.specs.Policies.{listed_words};
-ghost use Rattle.tl_tree_safe.specs.Values.{begins_scheme, is_blank, is_in_line, is_scheme_byte, link_read, lowered_where, reaches_colon, scheme_lowered, trimmed_end, trimmed_start};
+ghost use Rattle.tl_tree_safe.specs.Values.{begins_scheme, is_blank, is_in_line, is_scheme_byte, link_read, lowered_where, own_link, reaches_colon, scheme_lowered, trimmed_end, trimmed_start};
+ghost use Rattle.tl_tree_safe.specs.declared.value_kind.ValueKind.TheVariants.{Classes, Link, Names};
 
 use crate::classes::{are_classes, kept_classes};
-use crate::clean::{clean, is_clean};
+use crate::clean::{clean, clean_owned, is_clean};
 use crate::links::has_link_bytes;
 use crate::lists::Lists;
-use crate::own_names::{all_begin, leads_to_own, own_link, says_names, write_prefixed};
-use crate::words::is_among;
+use crate::own_names::{all_begin, leads_to_own, own_link, write_prefixed};
+use crate::value_kind::ValueKind;
 use std::alloc::{AllocError, Global};
 
 // Whether a byte is a control character of ASCII or a space.
@@ -153,53 +154,76 @@ fn is_read_so(link: &[u8]) -> bool
     has_link_bytes(link) && (!begins_scheme(link) || is_low(link))
 }
 
-// Whether a value says at a key what it is.
-fn is_said_so(lists: &Lists<'_>, key: &[u8], value: &[u8]) -> bool
-    ensures { result ≡ is_said_so (listed_words lists.now) key.now value.now }
+/// Whether all of a value of a kind stays.
+pub(crate) fn stays_whole(lists: &Lists<'_>, kind: ValueKind, value: &[u8]) -> bool
+    ensures { result ≡ stays_by (listed_words lists.now) kind value.now }
 {
-    if is_among(lists.link_keys, key) {
-        is_read_so(value) && leads_to_own(lists, value)
-    } else if key == b"class".as_slice() {
-        are_classes(lists.classes, value)
-    } else {
-        !says_names(key) || all_begin(lists.id_prefix.as_bytes(), value)
+    match kind {
+        ValueKind::Link => is_read_so(value) && leads_to_own(lists, value),
+        ValueKind::Classes => are_classes(lists.classes, value) && is_clean(value),
+        ValueKind::Names => all_begin(lists.id_prefix.as_bytes(), value) && is_clean(value),
+        ValueKind::Text => is_clean(value),
     }
 }
 
-/// Whether all of a value stays at a key.
-pub(crate) fn stays_whole(lists: &Lists<'_>, key: &[u8], value: &[u8]) -> bool
-    ensures { result ≡ stays_whole (listed_words lists.now) key.now value.now }
+// What a link says, with the name that another place in the page has.
+fn said_link(alloc: Global, lists: &Lists<'_>, value: &[u8]) -> Result<Vec<u8>, AllocError>
+    ensures { IfOk result (λ own. own.items
+        ≡ own_link (listed_words lists.now) (link_read value.now)) }
 {
-    is_clean(value) && is_said_so(lists, key, value)
+    if is_read_so(value) {
+        return own_link(alloc, lists, value);
+    }
+    let link = link_read(alloc, value)?;
+    own_link(alloc, lists, &link)
 }
 
-/// What stays of a value at a key.
+// What stays of a link.
+fn kept_link(alloc: Global, lists: &Lists<'_>, value: &[u8]) -> Result<Vec<u8>, AllocError>
+    ensures { IfOk result (λ kept. kept.items
+        ≡ kept_value_by (listed_words lists.now) Link value.now) }
+{
+    let own = said_link(alloc, lists, value)?;
+    clean_owned(alloc, own)
+}
+
+// What stays of classes.
 #[tactic(auto, using(crate::proofs::KeptValues::classes_clean))]
+fn kept_words(alloc: Global, lists: &Lists<'_>, value: &[u8]) -> Result<Vec<u8>, AllocError>
+    ensures { IfOk result (λ kept. kept.items
+        ≡ kept_value_by (listed_words lists.now) Classes value.now) }
+{
+    if is_clean(value) {
+        return kept_classes(alloc, lists.classes, value);
+    }
+    let said = clean(alloc, value)?;
+    kept_classes(alloc, lists.classes, &said)
+}
+
+// What stays of names.
+fn kept_names(alloc: Global, lists: &Lists<'_>, value: &[u8]) -> Result<Vec<u8>, AllocError>
+    ensures { IfOk result (λ kept. kept.items
+        ≡ kept_value_by (listed_words lists.now) Names value.now) }
+{
+    let mut own = Vec::new(alloc);
+    write_prefixed(lists.id_prefix.as_bytes(), value, &mut own)?;
+    clean_owned(alloc, own)
+}
+
+/// What stays of a value of a kind.
 pub(crate) fn kept_value(
     alloc: Global,
     lists: &Lists<'_>,
-    key: &[u8],
+    kind: ValueKind,
     value: &[u8],
 ) -> Result<Vec<u8>, AllocError>
     ensures { IfOk result (λ kept. kept.items
-        ≡ kept_value (listed_words lists.now) key.now value.now) }
+        ≡ kept_value_by (listed_words lists.now) kind value.now) }
 {
-    if is_among(lists.link_keys, key) {
-        let link = link_read(alloc, value)?;
-        let own = own_link(alloc, lists, &link)?;
-        let kept = clean(alloc, &own)?;
-        return Ok(kept);
+    match kind {
+        ValueKind::Link => kept_link(alloc, lists, value),
+        ValueKind::Classes => kept_words(alloc, lists, value),
+        ValueKind::Names => kept_names(alloc, lists, value),
+        ValueKind::Text => clean(alloc, value),
     }
-    if key == b"class".as_slice() {
-        let said = clean(alloc, value)?;
-        let kept = kept_classes(alloc, lists.classes, &said)?;
-        return Ok(kept);
-    }
-    if says_names(key) {
-        let mut own = Vec::new(alloc);
-        write_prefixed(lists.id_prefix.as_bytes(), value, &mut own)?;
-        let kept = clean(alloc, &own)?;
-        return Ok(kept);
-    }
-    clean(alloc, value)
 }

@@ -4,7 +4,7 @@ ghost use Rattle.tl_tree.specs.TreeView.{rows_in};
 ghost use Rattle.tl_tree_safe.specs.Inner.Walk.{next_by, walked};
 ghost use Rattle.tl_tree_safe.specs.Policies.{listed_words};
 
-use crate::lists::Lists;
+use crate::known::Known;
 use crate::writer::{Writer, end_of};
 use std::alloc::{AllocError, Global};
 use tl_tree::Tree;
@@ -25,18 +25,18 @@ pub(crate) fn next_of(tree: &Tree<'_>, number: usize, is_passed: bool) -> usize
 /// Writes what is kept of a tree by lists, and made to stay.
 pub(crate) fn write_walked(
     alloc: Global,
-    lists: &Lists<'_>,
+    known: &Known<'_>,
     tree: &Tree<'_>,
     out: &mut Vec<u8>,
 ) -> Result<(), AllocError>
     ensures { OnOk result (out.new.items
-        ≡ out.old.items ++ walked (listed_words lists.now) (rows_in tree.now)) }
+        ≡ out.old.items ++ walked (listed_words known.now.lists) (rows_in tree.now)) }
 {
     let mut writer = Writer::new(alloc);
     let mut number = 0;
     while number < tree.len() {
         writer.end_before(tree, number, out)?;
-        let is_passed = writer.put(alloc, lists, tree, number, out)?;
+        let is_passed = writer.put(alloc, known, tree, number, out)?;
         let next = next_of(tree, number, is_passed);
         number = next;
     }

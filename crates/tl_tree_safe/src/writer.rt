@@ -9,7 +9,7 @@ ghost use Rattle.tl_tree_safe.specs.Removed.{gone_of};
 ghost use Rattle.tl_tree_safe.specs.declared.fate.Fate.TheVariants.{Stays};
 
 use crate::fate::{Fate, fate_of};
-use crate::lists::Lists;
+use crate::known::Known;
 use crate::removal::Removal;
 use crate::start_tag::write_start;
 use crate::telling::tell_element;
@@ -151,21 +151,22 @@ impl Writer {
     fn put_element(
         &mut self,
         alloc: Global,
-        lists: &Lists<'_>,
+        known: &Known<'_>,
         tree: &Tree<'_>,
         number: usize,
         fate: Fate,
         out: &mut Vec<u8>,
     ) -> Result<(), AllocError>
         ensures text { OnOk result (out.new.items ≡ out.old.items
-            ++ fate_written (start_at (listed_words lists.now) (rows_in tree.now) number) fate) }
+            ++ fate_written
+            (start_at (listed_words known.now.lists) (rows_in tree.now) number) fate) }
         ensures spot { OnOk result (spot_of self.new ≡ behind_element number
             (end_or_none (rows_in tree.now) number) fate (spot_of self.old)) }
     {
         let Fate::Stays(kind) = fate else {
             return Ok(());
         };
-        write_start(alloc, lists, tree, number, out)?;
+        write_start(alloc, &known.lists, tree, number, out)?;
         self.stand_behind(number, end_of(tree, number), kind)
     }
 
@@ -194,21 +195,22 @@ impl Writer {
     pub(crate) fn tell<'t>(
         &self,
         alloc: Global,
-        lists: &Lists<'_>,
+        known: &Known<'_>,
         tree: &'t Tree<'_>,
         number: usize,
         told: &mut Vec<Removal<'t>>,
     ) -> Result<(), AllocError>
         ensures { OnOk result (map gone_of told.new.items ≡ map gone_of told.old.items
-            ++ row_told (listed_words lists.now) (rows_in tree.now) (spot_of self.now) number) }
+            ++ row_told
+            (listed_words known.now.lists) (rows_in tree.now) (spot_of self.now) number) }
     {
         let Some(kind) = tree.kind(number) else {
             return Ok(());
         };
         match kind {
             NodeKind::Element => {
-                let fate = fate_of(lists, &self.level, tree, number);
-                tell_element(alloc, lists, tree, number, fate, told)
+                let fate = fate_of(known, &self.level, tree, number);
+                tell_element(alloc, &known.lists, tree, number, fate, told)
             }
             _ => Ok(()),
         }
@@ -218,25 +220,25 @@ impl Writer {
     pub(crate) fn put(
         &mut self,
         alloc: Global,
-        lists: &Lists<'_>,
+        known: &Known<'_>,
         tree: &Tree<'_>,
         number: usize,
         out: &mut Vec<u8>,
     ) -> Result<bool, AllocError>
         ensures text { OnOk result (out.new.items ≡ out.old.items ++ row_written
-            (listed_words lists.now) (rows_in tree.now) (spot_of self.old) number) }
+            (listed_words known.now.lists) (rows_in tree.now) (spot_of self.old) number) }
         ensures spot { OnOk result (spot_of self.new ≡ behind_row
-            (listed_words lists.now) (rows_in tree.now) (spot_of self.old) number) }
+            (listed_words known.now.lists) (rows_in tree.now) (spot_of self.old) number) }
         ensures passed { IfOk result (λ passed. passed ≡ is_passed_at
-            (listed_words lists.now) (rows_in tree.now) (spot_of self.old) number) }
+            (listed_words known.now.lists) (rows_in tree.now) (spot_of self.old) number) }
     {
         let Some(kind) = tree.kind(number) else {
             return Ok(false);
         };
         match kind {
             NodeKind::Element => {
-                let fate = fate_of(lists, &self.level, tree, number);
-                self.put_element(alloc, lists, tree, number, fate, out)?;
+                let fate = fate_of(known, &self.level, tree, number);
+                self.put_element(alloc, known, tree, number, fate, out)?;
                 Ok(fate.is_passed())
             }
             NodeKind::Text => {

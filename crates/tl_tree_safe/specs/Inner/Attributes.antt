@@ -1,12 +1,19 @@
 -- What is written of attributes.
 use Rattle.std.specs.Prelude.{Bool, List, [], codes, if◌then◌else◌, ℕ, ◌&&◌}
-use Rattle.tl_dom_spec.specs.Tags.{Attribute}
+use Rattle.tl_dom_spec.specs.Tags.{Attribute, plain_attribute}
 use Rattle.tl_html_print.specs.Serialized.{serialized_attribute}
-use Rattle.tl_tree_safe.specs.Kept.{has_key, is_listed_attribute, is_marked_link, kept_attributes, marked_where}
-use Rattle.tl_tree_safe.specs.Lists.{ListedWords, rel_key}
+use Rattle.tl_tree_safe.specs.Kept.{has_key, is_listed_attribute, is_marked_link, kept_attributes, kept_value, marked_where}
+use Rattle.tl_tree_safe.specs.Lists.{ListedWords, is_listed_value, rel_key}
 
-abbrev pub with_value : Attribute → List ℕ → Attribute
-with_value a value = record a { value = value }
+-- a key with a value, where it may stand
+abbrev pub pair_where : Bool → List ℕ → List ℕ → List ℕ
+pair_where stands key value =
+    if stands then serialized_attribute (plain_attribute (key, value)) else []
+
+-- a listed key with what stays of its value
+abbrev pub value_written : ListedWords → List ℕ → List ℕ → List ℕ
+value_written p key value =
+    pair_where (is_listed_value p key (kept_value p key value)) key (kept_value p key value)
 
 -- an attribute that is listed, and nothing of another one
 abbrev pub listed_written : ListedWords → Attribute → List ℕ

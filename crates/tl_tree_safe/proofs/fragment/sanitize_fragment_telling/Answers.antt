@@ -10,4 +10,4 @@ returns-in-Ok-clause-print c = c.in-Ok.ensures.print (html_fragment div c.args.t
 pub returns-in-Ok-clause-lines : goal.returns-in-Ok-clause-lines
 returns-in-Ok-clause-lines c =
     tell c.args.text.now c.in_ok-tree.tree c.in_ok-tree.ensures.tree c.in_ok-tree.ensures.sources (lists_of c.args.policy.now) c.args.file.now c.in-Ok.told.lines.items
-    (c.in-Ok.ensures.lines (html_fragment div c.args.text.now) c.in_ok-tree.ensures.tree)
+    (c.in-Ok.ensures.told (html_fragment div c.args.text.now) c.in_ok-tree.ensures.tree)

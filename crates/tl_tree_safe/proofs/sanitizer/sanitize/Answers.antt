@@ -1,15 +1,20 @@
-use Rattle.std.proofs.Common.{List, ap, ◌++◌, ◌∙◌, ℕ}
+use Rattle.std.proofs.Common.{List, ap, ◌++◌, ◌∙◌, ◌≡◌, ℕ}
 use Rattle.std.proofs.lemmas.Result.{IfOk-equal}
 use Rattle.tl_tree.specs.Rows.{Row}
+use Rattle.tl_tree.specs.TreeView.{rows_in}
 use Rattle.tl_tree_safe.proofs.Passes.{pass_writes}
 use Rattle.tl_tree_safe.proofs.Walks.{walk_passes}
 use Rattle.tl_tree_safe.specs.Inner.Walk.{walked}
+use Rattle.tl_tree_safe.specs.Lists.{ListedWords}
 use Rattle.tl_tree_safe.specs.OfPolicy.{lists_of}
+use Rattle.tl_tree_safe.specs.Policies.{listed_words}
 use Rattle.tl_tree_safe.proofs.sanitizer.sanitize.Goals as goal
 
 pub returns : goal.returns
 returns c = λ trees same.
     let o : List ℕ = c.args.out.now.items in
     let p = lists_of c.args.policy.now in
+    let own : listed_words c.in_ok-known.known.lists ≡ p = ap listed_words c.in_ok-known.ensures in
     IfOk-equal c.write_walked.result _ _ _ c.write_walked.ensures
-    (ap (λ (R : List Row). o ++ walked p R) same ∙ ap (λ (x : List ℕ). o ++ x) (walk_passes p trees c.args.policy.now.plain ∙ pass_writes p trees c.args.policy.now.words))
+    (ap (λ (p : ListedWords). o ++ walked p (rows_in c.args.tree.now)) own
+    ∙ ap (λ (R : List Row). o ++ walked p R) same ∙ ap (λ (x : List ℕ). o ++ x) (walk_passes p trees c.args.policy.now.plain ∙ pass_writes p trees c.args.policy.now.words))

@@ -9,8 +9,8 @@ use Rattle.tl_tree_safe.proofs.told_walk.write_telling.Given as goal
 abbrev pub invariant-loop-number : goal.invariant-loop-number
 invariant-loop-number l =
     record {
-      text : l.fn.out.items ++ walked (listed_words l.lists) (rows_in l.tree) ≡ l.out.items ++ walked_from (listed_words l.lists) (rows_in l.tree) l.number (spot_of l.writer);
-      gone : map gone_of l.fn.removals.items ++ told (listed_words l.lists) (rows_in l.tree) ≡ map gone_of l.removals.items ++ told_from (listed_words l.lists) (rows_in l.tree) l.number (spot_of l.writer);
+      text : l.fn.out.items ++ walked (listed_words l.known.lists) (rows_in l.tree) ≡ l.out.items ++ walked_from (listed_words l.known.lists) (rows_in l.tree) l.number (spot_of l.writer);
+      gone : map gone_of l.fn.removals.items ++ told (listed_words l.known.lists) (rows_in l.tree) ≡ map gone_of l.removals.items ++ told_from (listed_words l.known.lists) (rows_in l.tree) l.number (spot_of l.writer);
     }
 
 abbrev pub decreases-loop-number : goal.decreases-loop-number

@@ -10,7 +10,7 @@ use Rattle.tl_tree_safe.proofs.writer.Writer.put_element.Goals as goal
 pub returns-in_default-clause-text : goal.returns-in_default-clause-text
 returns-in_default-clause-text c =
     let o : List ℕ = c.args.out.now.items in
-    let start : List ℕ = start_at (listed_words c.args.lists.now) (rows_in c.args.tree.now) c.args.number in
+    let start : List ℕ = start_at (listed_words c.args.known.now.lists) (rows_in c.args.tree.now) c.args.number in
     sym (append-nil o) ∙ ap (λ x. o ++ x) (sym (others_write_nothing c.args.fate c.in_default.not-Stays start))
 
 pub returns-in_default-clause-spot : goal.returns-in_default-clause-spot
@@ -20,7 +20,7 @@ returns-in_default-clause-spot c =
 pub returns-clause-text : goal.returns-clause-text
 returns-clause-text c =
     let o : List ℕ = c.args.out.now.items in
-    let start : List ℕ = start_at (listed_words c.args.lists.now) (rows_in c.args.tree.now) c.args.number in
+    let start : List ℕ = start_at (listed_words c.args.known.now.lists) (rows_in c.args.tree.now) c.args.number in
     on_ok_weaker c.stand_behind.result
     (λ _. c.in_ok-write_start.ensures ∙ ap (λ (f : Fate). o ++ fate_written start f) (sym c.in-Stays.is))
     c.stand_behind.ensures

@@ -22,11 +22,11 @@ returns-in_default c =
     let o : List Gone = map gone_of c.args.told.now.items in
     let asked = option_map kind_of (node_at R c.args.number) in
     sym (append-nil o)
-    ∙ ap (λ x. o ++ x) (sym (others_told (listed_words c.args.lists.now) R (spot_of c.args.self.now) c.args.number (no_kind Element asked c.in_default.ensures)))
+    ∙ ap (λ x. o ++ x) (sym (others_told (listed_words c.args.known.now.lists) R (spot_of c.args.self.now) c.args.number (no_kind Element asked c.in_default.ensures)))
 
 pub returns-in-Element : goal.returns-in-Element
 returns-in-Element c =
-    let p : ListedWords = listed_words c.args.lists.now in
+    let p : ListedWords = listed_words c.args.known.now.lists in
     let R : List Row = rows_in c.args.tree.now in
     let s : Spot = spot_of c.args.self.now in
     let o : List Gone = map gone_of c.args.told.now.items in
@@ -41,4 +41,4 @@ returns-in_default-kind c =
     let asked = option_map kind_of (node_at R c.args.number) in
     sym (append-nil o)
     ∙ ap (λ x. o ++ x)
-    (sym (others_told (listed_words c.args.lists.now) R (spot_of c.args.self.now) c.args.number (other_kind c.in-Some.kind Element asked c.in-Some.ensures c.in_default-kind.not-Element)))
+    (sym (others_told (listed_words c.args.known.now.lists) R (spot_of c.args.self.now) c.args.number (other_kind c.in-Some.kind Element asked c.in-Some.ensures c.in_default-kind.not-Element)))

@@ -1,6 +1,6 @@
 use Rattle.std.proofs.Common.{false, length, ◌++◌, ◌≡◌}
 use Rattle.tl_tree_safe.specs.Values.{prefixed}
-use Rattle.tl_tree_safe.proofs.own_names.write_prefixed.Given as goal
+use Rattle.tl_tree_safe.proofs.own_names.write_words.Given as goal
 
 -- what is written, and then what is left, is the whole
 abbrev pub invariant-loop-rest : goal.invariant-loop-rest
