@@ -17,8 +17,8 @@ use std::alloc::{AllocError, Global};
 use tl_tree::Tree;
 
 /// Writes what a policy keeps of a tree, made to stay as it is once a browser reads it. Its time is
-/// linear in the tree. It takes memory for an index of the tags, for elements that are open, and for
-/// texts and values that hold what goes.
+/// linear in the tree. It takes memory for an index of the tags, for elements that are open, and
+/// for texts and values that hold what goes.
 pub fn sanitize(
     alloc: Global,
     policy: &Policy<'_>,
