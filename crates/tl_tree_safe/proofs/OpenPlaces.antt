@@ -234,7 +234,7 @@ module _ (ns : Names) (o : IsOpen ns) where
 abbrev print_of : ListedWords → D.HtmlForest → List ℕ
 print_of p trees = serialized false None (kept_fitted p trees)
 
-tokens_are : (p : ListedWords) (trees : D.HtmlForest) → lists_words p ≡ true → HaveOwnKeys trees → tokens_of (at data_state) (print_of p trees) ≡ html_tokens_of (partial (kept_fitted p trees))
+pub tokens_are : (p : ListedWords) (trees : D.HtmlForest) → lists_words p ≡ true → HaveOwnKeys trees → tokens_of (at data_state) (print_of p trees) ≡ html_tokens_of (partial (kept_fitted p trees))
 tokens_are p trees l h =
     let f = kept_fitted p trees in
     let o = safe.own p trees l h in

@@ -2,13 +2,17 @@
 use Prim.Native.String.{String}
 use Rattle.std.specs.Prelude.{Bool, List, None, Some, [], codes, false, true, ℕ, ◌∷◌}
 use Rattle.tl_dom_spec.specs.HtmlForest.{HtmlForest}
-use Rattle.tl_dom_spec.specs.HtmlTree.{html_fragment}
+use Rattle.tl_dom_spec.specs.Driver.{builder}
+use Rattle.tl_dom_spec.specs.HtmlTree.{html_fragment, page_start, standard}
 use Rattle.tl_dom_spec.specs.Tags.{bare_tag}
 use Rattle.tl_html_print.specs.Serialized.{serialized}
 use Rattle.tl_html_spec.specs.Balanced.{words}
+use Rattle.tl_html_spec.specs.Driven.{driven, in_state}
+use Rattle.tl_html_spec.specs.HtmlTokenizer.{data_state}
 use Rattle.tl_tree_safe.specs.Kept.{kept}
 use Rattle.tl_tree_safe.specs.KeptFitted.{kept_fitted}
 use Rattle.tl_tree_safe.specs.Lists.{ListedWords}
+use Rattle.tl_tree_safe.specs.OfPages.{is_free_in, is_open_here}
 use Rattle.tl_tree_safe.specs.OpenPlaces.{Around, is_open_place}
 use Rattle.tl_tree_safe.specs.Removed.{Gone, removed}
 use Rattle.tl_tree_safe.specs.declared.removal.Cause.{Cause}
@@ -72,6 +76,16 @@ key_goes node key cause = record { node = node; key = Some (codes key); cause = 
 -- whether a print may be put where elements of these names are open
 abbrev pub is_open_in : String → Bool
 is_open_in names = is_open_place (words (codes names))
+
+-- whether a print may be put into a page behind this
+abbrev pub is_open_after : String → Bool
+is_open_after front =
+    is_open_here (driven builder (page_start standard) (in_state data_state) (codes front))
+
+-- whether a comment may have a number there
+abbrev pub is_free_after : ℕ → String → Bool
+is_free_after mark front =
+    is_free_in mark (driven builder (page_start standard) (in_state data_state) (codes front))
 
 -- a place in trees
 abbrev pub around_it : String → String → String → Around

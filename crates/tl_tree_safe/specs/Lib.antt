@@ -12,6 +12,7 @@ pub mod OwnLists
 pub mod ListOptions
 pub mod Settled
 pub mod OpenPlaces
+pub mod OfPages
 pub mod Joined
 pub mod Listed
 pub mod OwnKeys

@@ -1,7 +1,7 @@
 //! Laws of the definitions.
 
 ghost use Rattle.std.specs.Prelude.{Bool, List, None, false, length, map, nat_le, not, true, ℕ, ◌++◌, ◌∷◌, ◌≡◌, ◌≤◌, ◌||◌};
-ghost use Rattle.tl_dom_spec.specs.Builder.{Flags};
+ghost use Rattle.tl_dom_spec.specs.Builder.{Builder, Flags};
 ghost use Rattle.tl_dom_spec.specs.HtmlForest.{HtmlForest, element};
 ghost use Rattle.tl_dom_spec.specs.HtmlTree.{Context, html_fragment_by, html_tree_by};
 ghost use Rattle.tl_dom_spec.specs.Partial.{is_flow_context, whole, without_numbers};
@@ -9,7 +9,7 @@ ghost use Rattle.tl_dom_spec.specs.Tags.{Tag};
 ghost use Rattle.tl_html_print.specs.Again.{built_in};
 ghost use Rattle.tl_html_print.specs.ReadAgain.{tokens_of_trees};
 ghost use Rattle.tl_html_print.specs.Serialized.{serialized};
-ghost use Rattle.tl_html_spec.specs.HtmlTokenizer.{data_state};
+ghost use Rattle.tl_html_spec.specs.HtmlTokenizer.{HtmlToken, data_state};
 ghost use Rattle.tl_html_spec.specs.Reader.{at, tokens_of};
 ghost use Rattle.tl_safe_fit.specs.Levels.{most_open};
 ghost use Rattle.tl_spec.specs.Lex.ByteClass.{is_void};
@@ -20,6 +20,7 @@ ghost use Rattle.tl_tree_safe.specs.Joined.{texts_joined};
 ghost use Rattle.tl_tree_safe.specs.KeptFitted.{kept_fitted};
 ghost use Rattle.tl_tree_safe.specs.Listed.{are_listed};
 ghost use Rattle.tl_tree_safe.specs.Lists.{ListedWords, lists_words};
+ghost use Rattle.tl_tree_safe.specs.OfPages.{IsFilledIn, IsPutIntoPage, PutsInto, begun, is_free_in, is_open_here};
 ghost use Rattle.tl_tree_safe.specs.OpenPlaces.{AreAround, Around, back, front, is_open_place, names_in, put};
 ghost use Rattle.tl_tree_safe.specs.OwnKeys.{HaveOwnKeys};
 ghost use Rattle.tl_tree_safe.specs.Settled.{settled};
@@ -118,4 +119,33 @@ pub fn prints_go_where_they_are_put()
         without_numbers (texts_joined (kept_fitted p trees)) ≡ whole kept →
         Puts (placed reading tags)
         (tokens_of (at data_state) (serialized false None (kept_fitted p trees))) kept }
+{}
+
+/// Put into a page of any kind where the tree builder is at an open place (`is_open_here`),
+/// whatever the page has before it, such a print is built there exactly.
+///
+/// `puts`: its tokens put exactly these trees, with texts that stand side by side joined, at the
+/// end of the current node, but for the numbers of start tags; all else that the builder holds is
+/// as it was, but for counters and the frameset-ok flag, which is off if it was; and the tokenizer
+/// that the builder drives goes on as names do. `page`: so the tree of a whole page, of its tokens,
+/// is what those behind the print make of what the builder held before it, with these trees there.
+/// `filled`: and what follows is built as behind a comment at that place: the tree of the page is
+/// that with the comment, where these trees take its place, and counters go on as behind the print.
+#[tactic(auto, using(crate::proofs::PagePrints::put_there, crate::proofs::PagePrints::put_into_page, crate::proofs::PagePrints::put_filled))]
+pub fn put_into_a_page()
+    ensures puts { (b : Builder) (p : ListedWords) (trees : HtmlForest) → HaveOwnKeys trees →
+        lists_words p ≡ true → is_open_here b ≡ true →
+        PutsInto b (tokens_of (at data_state) (serialized false None (kept_fitted p trees)))
+        (texts_joined (kept_fitted p trees)) }
+    ensures page { (flags : Flags) (front back : List HtmlToken) (p : ListedWords)
+        (trees : HtmlForest) → HaveOwnKeys trees → lists_words p ≡ true →
+        is_open_here (begun flags front) ≡ true → IsPutIntoPage flags front
+        (tokens_of (at data_state) (serialized false None (kept_fitted p trees))) back
+        (texts_joined (kept_fitted p trees)) }
+    ensures filled { (flags : Flags) (front back : List HtmlToken) (p : ListedWords)
+        (trees : HtmlForest) (mark : ℕ) → HaveOwnKeys trees → lists_words p ≡ true →
+        is_open_here (begun flags front) ≡ true → is_free_in mark (begun flags front) ≡ true →
+        IsFilledIn flags front
+        (tokens_of (at data_state) (serialized false None (kept_fitted p trees))) back
+        (texts_joined (kept_fitted p trees)) mark }
 {}

@@ -17,6 +17,7 @@ mod lists;
 mod names;
 mod own_lists;
 mod own_names;
+mod page_rows;
 mod place_rows;
 mod policy;
 mod policy_rows;
