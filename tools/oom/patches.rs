@@ -2,10 +2,9 @@
 use crate::case::Case;
 use crate::stop::{Stop, value};
 use crate::{Named, measured};
+use std::alloc::Global;
 use tl_patch::{Change, TagPatch, patch};
-use tl_patch_edit::{
-    Content, ElementPatch, PlacedPatch, patch_each, patch_element, patch_elements,
-};
+use tl_patch_edit::{Content, EditError, ElementPatch, PlacedPatch, TokenizedPage};
 use tl_patch_select::{
     NodeChange, NodeEdit, Patched, edit_nodes, edit_selected, patch_nodes, patch_selected,
 };
@@ -107,16 +106,33 @@ fn patch_tags(patches: &[TagPatch<'_>], wanted: &str, case: &mut Case) -> Result
     is_page(answer?.as_slice(), wanted)
 }
 
+fn patched_one(
+    alloc: Global,
+    place: usize,
+    patch: ElementPatch<'_>,
+) -> Result<Vec<u8>, EditError> {
+    TokenizedPage::of(alloc, PAGE.as_bytes())?.patch_element(alloc, place, patch)
+}
+
+fn patched_at(
+    alloc: Global,
+    places: &[usize],
+    patch: ElementPatch<'_>,
+) -> Result<Vec<u8>, EditError> {
+    TokenizedPage::of(alloc, PAGE.as_bytes())?.patch_elements(alloc, places, patch)
+}
+
+fn patched_each(alloc: Global, patches: &[PlacedPatch<'_>]) -> Result<Vec<u8>, EditError> {
+    TokenizedPage::of(alloc, PAGE.as_bytes())?.patch_each(alloc, patches)
+}
+
 fn patch_one(
     place: usize,
     patch: ElementPatch<'_>,
     wanted: &str,
     case: &mut Case,
 ) -> Result<(), Stop> {
-    let answer = measured!(
-        case,
-        patch_element(case.alloc(), PAGE.as_bytes(), place, patch)
-    );
+    let answer = measured!(case, patched_one(case.alloc(), place, patch));
     is_page(answer?.as_slice(), wanted)
 }
 
@@ -126,10 +142,7 @@ fn patch_several(
     wanted: &str,
     case: &mut Case,
 ) -> Result<(), Stop> {
-    let answer = measured!(
-        case,
-        patch_elements(case.alloc(), PAGE.as_bytes(), places, patch)
-    );
+    let answer = measured!(case, patched_at(case.alloc(), places, patch));
     is_page(answer?.as_slice(), wanted)
 }
 
@@ -138,7 +151,7 @@ fn patch_elements_each(
     wanted: &str,
     case: &mut Case,
 ) -> Result<(), Stop> {
-    let answer = measured!(case, patch_each(case.alloc(), PAGE.as_bytes(), patches));
+    let answer = measured!(case, patched_each(case.alloc(), patches));
     is_page(answer?.as_slice(), wanted)
 }
 

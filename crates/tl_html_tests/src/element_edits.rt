@@ -1,9 +1,8 @@
 //! Pages with one element changed, and with several.
 
 use crate::answers::is_answer;
-use tl_patch_edit::{
-    Content, EditError, ElementPatch, PlacedPatch, patch_each, patch_element, patch_elements,
-};
+use std::alloc::Global;
+use tl_patch_edit::{Content, EditError, ElementPatch, PlacedPatch, TokenizedPage};
 
 const TEXT: Content<'static> = Content::Text { text: b"1 < 2 & 3" };
 
@@ -244,31 +243,63 @@ static EACH_ROWS: [EachRow; 32] = [
     (&[PlacedPatch { place: 4, patch: ElementPatch::Append { content: Y } }, PlacedPatch { place: 8, patch: ElementPatch::PutAfter { content: Z } }], b"<ul><li><p>a<li>b</ul>", Ok(b"<ul><li><p>a</p>zy<li>b</ul>")),
 ];
 
+/// A page with these patches.
+pub fn patched_each(
+    alloc: Global,
+    page: &[u8],
+    patches: &[PlacedPatch<'_>],
+) -> Result<Vec<u8>, EditError> {
+    let page = TokenizedPage::of(alloc, page)?;
+    page.patch_each(alloc, patches)
+}
+
+// A page with this patch of some elements.
+fn patched_at(
+    alloc: Global,
+    page: &[u8],
+    places: &[usize],
+    patch: ElementPatch<'_>,
+) -> Result<Vec<u8>, EditError> {
+    let page = TokenizedPage::of(alloc, page)?;
+    page.patch_elements(alloc, places, patch)
+}
+
+// A page with this patch of one element.
+fn patched(
+    alloc: Global,
+    page: &[u8],
+    place: usize,
+    patch: ElementPatch<'_>,
+) -> Result<Vec<u8>, EditError> {
+    let page = TokenizedPage::of(alloc, page)?;
+    page.patch_element(alloc, place, patch)
+}
+
 #[test]
 fn elements_are_changed(rt: HostRuntime) {
     for (patch, place, page, wanted) in &PAGE_ROWS {
-        assert!(rt; is_answer(patch_element(rt.alloc(), page, *place, *patch), *wanted));
+        assert!(rt; is_answer(patched(rt.alloc(), page, *place, *patch), *wanted));
     }
 }
 
 #[test]
 fn what_is_left_open_is_closed(rt: HostRuntime) {
     for (patch, place, page, wanted) in &LEFT_OPEN_ROWS {
-        assert!(rt; is_answer(patch_element(rt.alloc(), page, *place, *patch), *wanted));
+        assert!(rt; is_answer(patched(rt.alloc(), page, *place, *patch), *wanted));
     }
 }
 
 #[test]
 fn elements_end_in_the_tail(rt: HostRuntime) {
     for (patch, place, page, wanted) in &TAIL_ROWS {
-        assert!(rt; is_answer(patch_element(rt.alloc(), page, *place, *patch), *wanted));
+        assert!(rt; is_answer(patched(rt.alloc(), page, *place, *patch), *wanted));
     }
 }
 
 #[test]
 fn several_elements_are_changed(rt: HostRuntime) {
     for (patch, places, page, wanted) in &SEVERAL_ROWS {
-        let found = patch_elements(rt.alloc(), page, places, *patch);
+        let found = patched_at(rt.alloc(), page, places, *patch);
         assert!(rt; is_answer(found, *wanted));
     }
 }
@@ -276,7 +307,7 @@ fn several_elements_are_changed(rt: HostRuntime) {
 #[test]
 fn each_element_is_changed(rt: HostRuntime) {
     for (patches, page, wanted) in &EACH_ROWS {
-        let found = patch_each(rt.alloc(), page, patches);
+        let found = patched_each(rt.alloc(), page, patches);
         assert!(rt; is_answer(found, *wanted));
     }
 }

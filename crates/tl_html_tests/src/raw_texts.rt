@@ -1,7 +1,8 @@
 //! Texts that a browser may read as markup.
 
 use crate::answers::is_answer;
-use tl_patch_edit::{Content, EditError, ElementPatch, PlacedPatch, patch_each};
+use crate::element_edits::patched_each;
+use tl_patch_edit::{Content, EditError, ElementPatch, PlacedPatch};
 
 const BROKEN: Content<'static> = Content::Text {
     text: b"</noscript><img src=x>",
@@ -61,7 +62,7 @@ static ROWS: [Row; 36] = [
 #[test]
 fn raw_texts_are_kept(rt: HostRuntime) {
     for (patches, page, wanted) in &ROWS {
-        let found = patch_each(rt.alloc(), page, patches);
+        let found = patched_each(rt.alloc(), page, patches);
         assert!(rt; is_answer(found, *wanted));
     }
 }

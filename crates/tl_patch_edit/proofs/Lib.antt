@@ -1,4 +1,6 @@
 pub mod Lists
+pub mod Unread
+pub mod Unique
 pub mod Within
 pub mod Texts
 pub mod Edges

@@ -22,7 +22,7 @@ use Rattle.tl_patch_spec.specs.Splices.{Splice}
 use Rattle.tl_patch_spec.specs.Together.{ask_of}
 use Rattle.tl_patch_edit.specs.Asks.{ask_view, asks_view}
 use Rattle.tl_patch_edit.specs.Errors.{IsRefused, pieces_in, placed_pieces}
-use Rattle.tl_patch_edit.specs.Inner.Limits.{AreKept, AreLimits, BeginsToken, IsMisreadError, is_misread_in, is_raw_at, is_start_kind}
+use Rattle.tl_patch_edit.specs.Inner.Limits.{AreKept, AreLimits, BeginsToken, IsDoubtless, IsMisreadError, is_misread_in, is_raw_at, is_start_kind}
 use Rattle.tl_patch_edit.specs.Inner.Parts.{ArePieces, IsPieceOf, Part, Says, is_text_kind, view_at}
 use Rattle.tl_patch_edit.specs.Kept.{KeepRawTexts}
 use Rattle.tl_patch_edit.specs.Several.{AreMeantAt, AreSorted, asked_view}
@@ -363,3 +363,13 @@ none_kept page = record {
   same = IsPermutation-refl [];
   kept = λ k d l. absurd (omega arith);
 }
+
+-- what is read as markup in no page
+
+neither : (a b c d : Bool) → a ≡ false → b ≡ false → ((a && c) || (b && d)) ≡ false
+neither a b c d e f = rw (e, f)
+
+pub doubtless_kept : (ps : List Piece) (asks : List PlacedAsk) → All IsDoubtless asks → AreKept ps asks
+doubtless_kept ps asks h = λ k d l.
+    let one : IsDoubtless (get_or asks k d) = h k d l in
+    neither _ _ _ _ one.text one.name

@@ -1,11 +1,13 @@
 -- Elements that are left open, of the code, as the definitions have them.
-use Rattle.std.specs.Prelude.{◌≡◌, ℕ, zero, suc, List, [], ◌∷◌, ◌++◌, map, Option, None, Some, option_map}
+use Rattle.std.specs.Prelude.{◌≡◌, ℕ, zero, suc, Bool, true, false, List, [], ◌∷◌, ◌++◌, length, map, Option, None, Some, option_map}
 use Rattle.std.specs.List.{All}
 use Rattle.tl_html_parts.specs.Parts.{name_of}
-use Rattle.tl_patch_spec.specs.Elements.{OpenElement}
-use Rattle.tl_patch_spec.specs.LeftOpen.{Closing, ElementAt, LeftOpen, closed_all, closings, open_after}
-use Rattle.tl_patch_spec.specs.Patches.{Extent}
-use Rattle.tl_patch_spec.specs.Together.{asked_at, end_tags, turn_of}
+use Rattle.tl_html_spec.specs.Pieces.{Piece}
+use Rattle.tl_patch_spec.specs.Elements.{Element, OpenElement}
+use Rattle.tl_patch_spec.specs.LeftOpen.{Closing, ElementAt, LeftOpen, closed_all, closings, open_after, without_ended}
+use Rattle.tl_patch_spec.specs.Patches.{Extent, Fill, Patch, Prepend, Remove}
+use Rattle.tl_patch_spec.specs.Tail.{elements_up_to_tail}
+use Rattle.tl_patch_spec.specs.Together.{asked_at, asked_each, asked_from, end_tags, none_gone, turn_of}
 use Rattle.tl_patch_edit.specs.Asks.{planned_view}
 use Rattle.tl_patch_edit.specs.Several.{asked_view}
 use Rattle.tl_patch_edit.specs.View.{patch_view}
@@ -92,3 +94,17 @@ pub record ArePushed (m : MeantPatch) (at : ℕ) (extent : Extent) (planned : Pl
   pub of : All (IsOf m.start at) more
   pub remains : left_view new_left
       ≡ open_after (patch_view m.patch) m.start.number extent (left_view left)
+
+-- whether a patch may put in end tags
+abbrev pub closes : Patch → Bool
+closes Remove = false
+closes (Fill c) = false
+closes (Prepend c) = false
+closes patch = true
+
+-- with what is left open there patches ask for what they ask for in a page that has these elements
+-- and so many pieces
+abbrev pub IsOpenFor : List Element → ℕ → List (ℕ × Patch) → LeftOpen → Type 0
+IsOpenFor es len patches left =
+    (ps : List Piece) → es ≡ elements_up_to_tail ps → length ps ≡ len →
+    asked_each ps patches ≡ asked_from ps 0 none_gone (without_ended patches left) patches

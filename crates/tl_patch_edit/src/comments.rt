@@ -121,7 +121,7 @@ pub fn without_comments(
     let tokens = tokens(alloc, page)?;
     let parts = parts_of(alloc, page, tokens.as_slice())?;
     let asks = comment_asks(alloc, tokens.as_slice(), places)?;
-    match spliced_page(alloc, page, parts.as_slice(), asks.as_slice(), 0) {
+    match spliced_page(alloc, page, parts, asks.as_slice(), 0) {
         Ok(text) => Ok(text),
         Err(EditError::OutOfMemory) => Err(CommentError::OutOfMemory),
         Err(_) => Err(CommentError::ReadOtherwise),

@@ -126,20 +126,23 @@ fn read_again(
     Ok(text)
 }
 
-// The page with what is asked for, in order.
+// The page with what is asked for, in order. Its parts go before the text is read again.
 pub(crate) fn spliced_page(
     alloc: Global,
     page: &[u8],
-    parts: &[Part<'_>],
+    parts: Vec<Part<'_>>,
     asks: &[PlacedAsk<'_>],
     place: usize,
 ) -> Result<Vec<u8>, EditError>
     ensures text { IfOk result (λ text. IsSplicedPageOf (asks_view asks.now)
-        (parts_view parts.now) page.now text.items) }
-    ensures error { IfErr result (IsPageError page.now place (parts_view parts.now) asks.now) }
+        (parts_view parts.entry.items) page.now text.items) }
+    ensures error { IfErr result
+        (IsPageError page.now place (parts_view parts.entry.items) asks.now) }
 {
-    let ready = ready_asks(alloc, parts, asks)?;
-    let wanted = wanted_parts(alloc, parts, ready.as_slice())?;
+    let old = parts.as_slice();
+    let ready = ready_asks(alloc, old, asks)?;
+    let wanted = wanted_parts(alloc, old, ready.as_slice())?;
+    drop(parts);
     let text = read_again(alloc, page, wanted.as_slice(), place)?;
     Ok(text)
 }

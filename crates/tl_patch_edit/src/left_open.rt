@@ -1,10 +1,11 @@
 //! Elements that end without an end tag, and the end tags that are put in there.
+ghost use Rattle.std.specs.List.{list_any};
 ghost use Rattle.std.specs.Option.{option_to_list};
 ghost use Rattle.std.specs.Prelude.{◌≡◌, ◌++◌, ℕ, IfOk, None, OnOk, length, option_map, slice_set, suc};
 ghost use Rattle.tl_html_parts.specs.Parts.{name_of};
 ghost use Rattle.tl_patch_spec.specs.LeftOpen.{closed_all, closed_at, closed_before, closed_behind, closed_if, closes_before, closing_at, ended_with, ends_element, is_left_open, last_open, none_open, open_with, open_with_all, takes_inside, with_inside, with_open, without_ended, without_inside, without_own};
 ghost use Rattle.tl_patch_elements.specs.View.{element_view, elements_view};
-ghost use Rattle.tl_patch_edit.specs.Open.{AreNone, ArePutIn, all_view, closing_asks, closing_view, end_tag_asks, left_view, one_view, open_of, open_view};
+ghost use Rattle.tl_patch_edit.specs.Open.{AreNone, ArePutIn, IsOpenFor, all_view, closes, closing_asks, closing_view, end_tag_asks, left_view, one_view, open_of, open_view};
 ghost use Rattle.tl_patch_edit.specs.View.{extent_view, meant_view, patch_view};
 
 use crate::ask::{
@@ -150,7 +151,7 @@ fn open_with<'p>(
 }
 
 // The elements that end without their end tag, where there are so many tokens.
-pub(crate) fn left_open<'p>(
+fn left_open<'p>(
     alloc: Global,
     elements: &[Element<'p>],
     len: usize,
@@ -169,6 +170,48 @@ pub(crate) fn left_open<'p>(
         open_with(alloc, one, extent, &mut left)?;
     }
     Ok(left)
+}
+
+// Whether a patch may put in end tags.
+fn closes(patch: ElementPatch<'_>) -> bool
+    ensures { result ≡ closes (patch_view patch.entry) }
+{
+    match patch {
+        ElementPatch::Remove => false,
+        ElementPatch::Fill { .. } => false,
+        ElementPatch::Prepend { .. } => false,
+        _ => true,
+    }
+}
+
+// Whether one of some patches may.
+fn close_some(meant: &[MeantPatch<'_>]) -> bool
+    ensures { result ≡ list_any (λ m. closes (patch_view m.patch)) meant.now }
+{
+    meant.iter().any(|one| closes(one.patch))
+}
+
+// What is left open of these elements, as far as patches ask for it: those that put in no end tag
+// don't.
+#[tactic(auto, using(crate::proofs::Unread::open_for_none, crate::proofs::Unread::open_for_all))]
+pub(crate) fn open_for<'p>(
+    alloc: Global,
+    elements: &[Element<'p>],
+    len: usize,
+    meant: &[MeantPatch<'_>],
+) -> Result<LeftOpen<'p>, AllocError>
+    ensures { IfOk result (λ left.
+        IsOpenFor (elements_view elements.now) len (meant_view meant.now) (left_view left)) }
+{
+    if close_some(meant) {
+        let left = left_open(alloc, elements, len)?;
+        return Ok(left);
+    }
+    Ok(LeftOpen {
+        before: Vec::new(alloc),
+        inside: Vec::new(alloc),
+        own: Vec::new(alloc),
+    })
 }
 
 // The end tag of the element of a start tag, put in before a token by a patch, if it has got none.

@@ -1,6 +1,6 @@
 //! Raw texts that browsers may read as markup.
-ghost use Rattle.std.specs.Prelude.{◌≡◌, ◌<◌, ◌&&◌, List, IfErr, IfOk, OnOk, length};
-ghost use Rattle.std.specs.List.{list_any};
+ghost use Rattle.std.specs.Prelude.{false, ◌≡◌, ◌<◌, ◌&&◌, List, IfErr, IfOk, OnOk, length};
+ghost use Rattle.std.specs.List.{All, list_any};
 ghost use Rattle.tl_html_spec.specs.HtmlTokenizer.{HtmlToken};
 ghost use Rattle.tl_html_spec.specs.Pieces.{Piece};
 ghost use Rattle.tl_html_tokens.specs.Kinds.{IsStartTag};
@@ -11,7 +11,7 @@ ghost use Rattle.tl_html_tokens.specs.declared.mode.Mode.{Mode};
 ghost use Rattle.tl_patch_spec.specs.RawTexts.{begins_unsure, cause_at, is_markup, is_markup_put, is_raw, is_raw_markup, is_unescaped, is_unsure_name, is_unsure_put, raw_until, unsure_at, unsure_from, unsure_with};
 ghost use Rattle.tl_patch_edit.specs.Asks.{ask_view, asks_view, puts_view, text_of};
 ghost use Rattle.tl_patch_edit.specs.Errors.{pieces_in};
-ghost use Rattle.tl_patch_edit.specs.Inner.Limits.{AreKept, AreLimits, BeginsToken, IsMisreadError, is_misread_in, is_raw_at, is_start_kind};
+ghost use Rattle.tl_patch_edit.specs.Inner.Limits.{AreKept, AreLimits, BeginsToken, IsDoubtless, IsMisreadError, is_misread_in, is_raw_at, is_start_kind};
 ghost use Rattle.tl_patch_edit.specs.Inner.Parts.{IsPieceOf, is_text_kind, part_view};
 ghost use Rattle.tl_patch_edit.specs.View.{content_view};
 
@@ -246,9 +246,30 @@ fn begin_of(tokens: &[Token], number: usize) -> usize
     tokens[number].start
 }
 
-// Refuses what a browser may read as markup: a text with `&` or `<` in a raw text behind the start
-// tag of a `svg` and its like, and such a name for a tag before such raw texts.
-pub(crate) fn refuse_misread(
+// Whether what is put may be read as markup in some page: a text that would be, or such a name for
+// a tag.
+fn is_doubtful(put: Put<'_>) -> bool
+    ensures text { result ≡ false → list_any is_markup_put (puts_view put.entry) ≡ false }
+    ensures name { result ≡ false → list_any is_unsure_put (puts_view put.entry) ≡ false }
+{
+    is_markup_put(put) || is_unsure_put(put)
+}
+
+// Whether something of that is put.
+fn are_doubtful(asks: &[PlacedAsk<'_>]) -> bool
+    ensures { result ≡ false → All IsDoubtless asks.now }
+{
+    for at in 0..asks.len() {
+        let is_doubtful = is_doubtful(asks[at].ask.put);
+        if is_doubtful {
+            return true;
+        }
+    }
+    false
+}
+
+// Refuses what a browser may read as markup by the raw texts and the start tags of the page.
+fn refuse_by_page(
     alloc: Global,
     page: &[u8],
     tokens: &[Token],
@@ -268,4 +289,24 @@ pub(crate) fn refuse_misread(
         }
     }
     Ok(())
+}
+
+// Refuses what a browser may read as markup: a text with `&` or `<` in a raw text behind the start
+// tag of a `svg` and its like, and such a name for a tag before such raw texts. The page isn't
+// looked at where nothing of that is put.
+pub(crate) fn refuse_misread(
+    alloc: Global,
+    page: &[u8],
+    tokens: &[Token],
+    asks: &[PlacedAsk<'_>],
+) -> Result<(), EditError>
+    requires { AreTokensOf page.now tokens.now }
+    ensures kept { OnOk result (AreKept (pieces_in page.now) asks.now) }
+    ensures error { IfErr result (IsMisreadError (pieces_in page.now) tokens.now asks.now) }
+{
+    let are_doubtful = are_doubtful(asks);
+    if !are_doubtful {
+        return Ok(());
+    }
+    refuse_by_page(alloc, page, tokens, asks)
 }

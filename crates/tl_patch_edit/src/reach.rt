@@ -5,7 +5,8 @@ ghost use Rattle.tl_patch_edit.specs.Stretches.{begin_of, past, stretch_of, stre
 ghost use Rattle.tl_patch_elements.specs.View.{element_view, elements_view};
 
 use crate::ask::next;
-use crate::tail::{elements_up_to_tail, tail_of};
+use crate::page::TokenizedPage;
+use crate::tail::tail_of;
 use std::alloc::{AllocError, Global};
 use tl_html_tokens::Token;
 use tl_patch_elements::Element;
@@ -81,16 +82,28 @@ fn all_stretches(
     Ok(all)
 }
 
-/// The bytes of each element of a page, by its end tags, in the order in which the elements end,
-/// and where the tail of the page begins.
+impl TokenizedPage<'_> {
+    /// The bytes of each element of a page, by its end tags, in the order in which the elements
+    /// end, and where the tail of the page begins.
+    pub fn stretches(&self, alloc: Global) -> Result<PageStretches, AllocError>
+        ensures elements { IfOk result (λ found.
+            found.elements.items ≡ stretches self.now.page.now) }
+        ensures tail { IfOk result (λ found. found.tail ≡ tail_begin self.now.page.now) }
+    {
+        let tokens = self.tokens.as_slice();
+        let elements = all_stretches(alloc, self.page, tokens, self.elements.as_slice())?;
+        let page_tail = tail_of(alloc, self.page, tokens)?;
+        let tail = begin_of(self.page, tokens, page_tail.body.place);
+        Ok(PageStretches { elements, tail })
+    }
+}
+
+/// The same of a page of which nothing else is asked.
 pub fn stretches(alloc: Global, page: &[u8]) -> Result<PageStretches, AllocError>
     ensures elements { IfOk result (λ found. found.elements.items ≡ stretches page.now) }
     ensures tail { IfOk result (λ found. found.tail ≡ tail_begin page.now) }
 {
-    let found = elements_up_to_tail(alloc, page)?;
-    let tokens = found.tokens.as_slice();
-    let elements = all_stretches(alloc, page, tokens, found.elements.as_slice())?;
-    let page_tail = tail_of(alloc, page, tokens)?;
-    let tail = begin_of(page, tokens, page_tail.body.place);
-    Ok(PageStretches { elements, tail })
+    let tokenized = TokenizedPage::of(alloc, page)?;
+    let found = tokenized.stretches(alloc)?;
+    Ok(found)
 }

@@ -1,32 +1,28 @@
-//! A page with elements changed.
-ghost use Rattle.std.specs.Prelude.{◌≡◌, ◌≤◌, ◌<◌, ◌++◌, ◌∷◌, [], ℕ, Err, IfErr, IfOk, MatchResult, OnOk, Some, drop, length};
+//! What several patches ask for.
+ghost use Rattle.std.specs.Prelude.{◌≡◌, ◌≤◌, ◌<◌, ◌++◌, ◌∷◌, [], IfErr, IfOk, OnOk, Some, length};
 ghost use Rattle.std.specs.List.{All};
 ghost use Rattle.std.specs.List.Sorted.{IsPermutation};
+ghost use Rattle.tl_patch_elements.specs.View.{elements_view};
 ghost use Rattle.tl_patch_spec.specs.Patches.{asked_of};
 ghost use Rattle.tl_patch_spec.specs.Tail.{elements_up_to_tail};
-ghost use Rattle.tl_patch_spec.specs.LeftOpen.{left_open, without_ended};
-ghost use Rattle.tl_patch_spec.specs.Together.{asked_each, at_each, depth_of, gone_after, is_gone, rank_of, turn_of};
+ghost use Rattle.tl_patch_spec.specs.LeftOpen.{without_ended};
+ghost use Rattle.tl_patch_spec.specs.Together.{asked_each, asked_from, at_each, depth_of, gone_after, is_gone, none_gone, rank_of, turn_of};
 ghost use Rattle.tl_patch_edit.specs.Open.{ArePushed, left_view};
 ghost use Rattle.tl_patch_edit.specs.Asks.{planned_view};
 ghost use Rattle.tl_patch_edit.specs.Inner.Causes.{IsAsksError, IsPlanError, IsPlanned, IsStartsError};
-ghost use Rattle.tl_patch_edit.specs.Errors.{CannotBeMeant, CannotBeRead, CannotBeWritten, IsRefused, LacksStartTag, MayBeMisread, StandAcross, StandsPastEnd, pieces_in};
-ghost use Rattle.tl_patch_edit.specs.declared.ask.PlacedPatch.{PlacedPatch};
-ghost use Rattle.tl_patch_edit.specs.declared.error.EditError.TheVariants.{Across, EndOfPage, Misread, NoStartTag, NotMeant, NotWritten, OutOfMemory, ReadOtherwise};
-ghost use Rattle.tl_patch_edit.specs.Several.{AreEdited, AreExtents, AreInTurn, AreMeantAt, AreSorted, IsMeantOfPage, asked_view, places_of, stands_twice};
-ghost use Rattle.tl_patch_edit.specs.Kept.{KeepRawTexts};
+ghost use Rattle.tl_patch_edit.specs.Errors.{pieces_in};
+ghost use Rattle.tl_patch_edit.specs.Several.{AreExtents, AreInTurn, AreMeantAt, AreSorted, IsMeantOfPage, asked_view, places_of, stands_twice};
 ghost use Rattle.tl_patch_edit.specs.View.{extent_view, gone_view, meant_view, patch_view, patches_view, turn_view};
 
 use crate::ask::{ElementPatch, Extent, Gone, MeantPatch, PlacedAsk, PlacedPatch, Planned, Turn};
-use crate::edit::{meant_start, planned_for, push_asks, spliced_page};
+use crate::edit::{meant_start, planned_for, push_asks};
 use crate::error::EditError;
 use crate::extent::extents_of;
-use crate::left_open::{LeftOpen, left_open, push_end_tags, without_ended};
-use crate::part::parts_of;
-use crate::raw_text::refuse_misread;
-use crate::tail::elements_up_to_tail;
+use crate::left_open::{LeftOpen, open_for, push_end_tags, without_ended};
 use std::alloc::{AllocError, Global};
 use std::cmp::Reverse;
 use tl_html_tokens::Token;
+use tl_patch_elements::Element;
 
 fn push_meant<'n>(one: MeantPatch<'n>, out: &mut Vec<MeantPatch<'n>>) -> Result<(), AllocError>
     ensures { OnOk result (out.new.items ≡ out.old.items ++ one.entry ∷ []) }
@@ -37,7 +33,7 @@ fn push_meant<'n>(one: MeantPatch<'n>, out: &mut Vec<MeantPatch<'n>>) -> Result<
 
 // Patches with the start tags at their places, which stand in order; a place may stand several
 // times.
-fn meant_at<'n>(
+pub(crate) fn meant_at<'n>(
     alloc: Global,
     tokens: &[Token],
     patches: &[PlacedPatch<'n>],
@@ -171,8 +167,8 @@ fn asks_of<'n>(
     requires meant { All (IsMeantOfPage page.now) meant.now }
     requires extents { AreExtents (elements_up_to_tail (pieces_in page.now)) extents.now }
     requires within { length (pieces_in page.now) ≤ length extents.now }
-    requires left { left_view all_left
-        ≡ without_ended (meant_view meant.now) (left_open (pieces_in page.now)) }
+    requires left { asked_each (pieces_in page.now) (meant_view meant.now)
+        ≡ asked_from (pieces_in page.now) 0 none_gone (left_view all_left) (meant_view meant.now) }
     ensures asks { IfOk result (λ asks.
         asked_each (pieces_in page.now) (meant_view meant.now) ≡ Some (asked_view asks.items)) }
     ensures planned { IfOk result (λ asks. All (IsPlanned meant.now) asks.items) }
@@ -221,7 +217,9 @@ fn sorted_asks<'n>(
     requires meant { All (IsMeantOfPage page.now) meant.now }
     requires extents { AreExtents (elements_up_to_tail (pieces_in page.now)) extents.now }
     requires within { length (pieces_in page.now) ≤ length extents.now }
-    requires left { left_view all_left ≡ left_open (pieces_in page.now) }
+    requires left { asked_each (pieces_in page.now) (meant_view meant.now)
+        ≡ asked_from (pieces_in page.now) 0 none_gone
+        (without_ended (meant_view meant.now) (left_view all_left)) (meant_view meant.now) }
     ensures sorted { IfOk result (λ asks.
         AreSorted (pieces_in page.now) (meant_view meant.now) asks.items) }
     ensures planned { IfOk result (λ asks. All (IsPlanned meant.now) asks.items) }
@@ -234,77 +232,25 @@ fn sorted_asks<'n>(
     Ok(asks)
 }
 
-// The place of the first of some patches.
-fn first_of(patches: &[PlacedPatch<'_>]) -> usize
-    requires { 0 < length patches.now }
-    ensures { places_of (patches_view patches.now)
-        ≡ result ∷ places_of (patches_view (drop 1 patches.now)) }
-{
-    patches[0].place
-}
-
-// The page with these patches.
-fn with_patches<'p>(
+// What these patches ask for, in order, of a page that has these elements and so many tokens.
+pub(crate) fn page_asks<'n>(
     alloc: Global,
-    page: &'p [u8],
-    patches: &[PlacedPatch<'p>],
-) -> Result<Vec<u8>, EditError>
-    requires { 0 < length patches.now }
-    ensures edited { IfOk result (λ text.
-        AreEdited (patches_view patches.now) page.now text.items) }
-    ensures kept { IfOk result (λ _. KeepRawTexts (patches_view patches.now) page.now) }
-    ensures error { IfErr result (IsRefused page.now (patches_view patches.now)) }
+    page: &'n [u8],
+    elements: Vec<Element<'n>>,
+    len: usize,
+    meant: &[MeantPatch<'n>],
+) -> Result<Vec<PlacedAsk<'n>>, EditError>
+    requires meant { All (IsMeantOfPage page.now) meant.now }
+    requires elements { elements_view elements.items ≡ elements_up_to_tail (pieces_in page.now) }
+    requires len { length (pieces_in page.now) ≡ len }
+    ensures sorted { IfOk result (λ asks.
+        AreSorted (pieces_in page.now) (meant_view meant.now) asks.items) }
+    ensures planned { IfOk result (λ asks. All (IsPlanned meant.now) asks.items) }
+    ensures error { IfErr result (IsAsksError page.now meant.now) }
 {
-    let place = first_of(patches);
-    let found = elements_up_to_tail(alloc, page)?;
-    let parts = parts_of(alloc, page, found.tokens.as_slice())?;
-    let meant = meant_at(alloc, found.tokens.as_slice(), patches)?;
-    let extents = extents_of(alloc, found.elements.as_slice(), parts.len())?;
-    let left = left_open(alloc, found.elements.as_slice(), parts.len())?;
-    let asks = sorted_asks(alloc, page, meant.as_slice(), extents.as_slice(), left)?;
-    refuse_misread(alloc, page, found.tokens.as_slice(), asks.as_slice())?;
-    let text = spliced_page(alloc, page, parts.as_slice(), asks.as_slice(), place)?;
-    Ok(text)
-}
-
-/// The page with these patches, each of the element whose start tag begins at its place, a byte of
-/// the page; the places stand in order, and one may stand several times. An element that begins in
-/// what another patch takes away, by `Remove`, `ReplaceWith` or `Fill`, goes with it; patches that
-/// cut across each other are refused. No other byte changes. `</>`, which is read as nothing,
-/// stands where two texts would become something else together. What a browser may read as markup,
-/// as a text with `<` in a `style` behind an `svg`, isn't put. The text is read again, and is
-/// refused where it isn't read as asked, with the place of the first element.
-pub fn patch_each(
-    alloc: Global,
-    page: &[u8],
-    patches: &[PlacedPatch<'_>],
-) -> Result<Vec<u8>, EditError>
-    ensures edited { IfOk result (λ text.
-        AreEdited (patches_view patches.now) page.now text.items) }
-    ensures kept { IfOk result (λ _. KeepRawTexts (patches_view patches.now) page.now) }
-    ensures unchanged { patches.now ≡ [] →
-        MatchResult result (λ text. text.items ≡ page.now) (λ error. error ≡ OutOfMemory) }
-    ensures no_start { (place : ℕ) → result ≡ Err (NoStartTag place) →
-        LacksStartTag page.now (places_of (patches_view patches.now)) place }
-    ensures not_meant { (place : ℕ) → result ≡ Err (NotMeant place) →
-        CannotBeMeant page.now (patches_view patches.now) place }
-    ensures across { (place : ℕ) → result ≡ Err (Across place) →
-        StandAcross page.now (patches_view patches.now) place }
-    ensures past_end { (place : ℕ) → result ≡ Err (EndOfPage place) →
-        StandsPastEnd page.now (patches_view patches.now) place }
-    ensures not_written { (place : ℕ) → result ≡ Err (NotWritten place) →
-        CannotBeWritten page.now (patches_view patches.now) place }
-    ensures misread { (place cause : ℕ) → result ≡ Err (Misread place cause) →
-        MayBeMisread page.now (patches_view patches.now) place cause }
-    ensures read_otherwise { (place : ℕ) → result ≡ Err (ReadOtherwise place) →
-        CannotBeRead page.now (patches_view patches.now) place }
-{
-    if patches.is_empty() {
-        let mut text = Vec::new(alloc);
-        text.extend_from_slice(page)?;
-        return Ok(text);
-    }
-    with_patches(alloc, page, patches)
+    let extents = extents_of(alloc, elements.as_slice(), len)?;
+    let left = open_for(alloc, elements.as_slice(), len, meant)?;
+    sorted_asks(alloc, page, meant, extents.as_slice(), left)
 }
 
 // Whether the place behind one is the same.
@@ -342,65 +288,4 @@ pub(crate) fn each_at<'n>(
         }
     }
     Ok(patches)
-}
-
-/// The same with one patch of several elements; a place that stands several times counts once.
-pub fn patch_elements(
-    alloc: Global,
-    page: &[u8],
-    places: &[usize],
-    patch: ElementPatch<'_>,
-) -> Result<Vec<u8>, EditError>
-    ensures edited { IfOk result (λ text.
-        AreEdited (at_each (patch_view patch.entry) places.now) page.now text.items) }
-    ensures kept { IfOk result (λ _.
-        KeepRawTexts (at_each (patch_view patch.entry) places.now) page.now) }
-    ensures unchanged { places.now ≡ [] →
-        MatchResult result (λ text. text.items ≡ page.now) (λ error. error ≡ OutOfMemory) }
-    ensures no_start { (place : ℕ) → result ≡ Err (NoStartTag place) →
-        LacksStartTag page.now (places_of (at_each (patch_view patch.entry) places.now)) place }
-    ensures not_meant { (place : ℕ) → result ≡ Err (NotMeant place) →
-        CannotBeMeant page.now (at_each (patch_view patch.entry) places.now) place }
-    ensures across { (place : ℕ) → result ≡ Err (Across place) →
-        StandAcross page.now (at_each (patch_view patch.entry) places.now) place }
-    ensures past_end { (place : ℕ) → result ≡ Err (EndOfPage place) →
-        StandsPastEnd page.now (at_each (patch_view patch.entry) places.now) place }
-    ensures not_written { (place : ℕ) → result ≡ Err (NotWritten place) →
-        CannotBeWritten page.now (at_each (patch_view patch.entry) places.now) place }
-    ensures misread { (place cause : ℕ) → result ≡ Err (Misread place cause) →
-        MayBeMisread page.now (at_each (patch_view patch.entry) places.now) place cause }
-    ensures read_otherwise { (place : ℕ) → result ≡ Err (ReadOtherwise place) →
-        CannotBeRead page.now (at_each (patch_view patch.entry) places.now) place }
-{
-    let patches = each_at(alloc, places, patch)?;
-    patch_each(alloc, page, patches.as_slice())
-}
-
-/// The same with one patch of one element.
-pub fn patch_element(
-    alloc: Global,
-    page: &[u8],
-    place: usize,
-    patch: ElementPatch<'_>,
-) -> Result<Vec<u8>, EditError>
-    ensures edited { IfOk result (λ text.
-        AreEdited ((place, patch_view patch.entry) ∷ []) page.now text.items) }
-    ensures kept { IfOk result (λ _.
-        KeepRawTexts ((place, patch_view patch.entry) ∷ []) page.now) }
-    ensures no_start { (p : ℕ) → result ≡ Err (NoStartTag p) →
-        LacksStartTag page.now (place ∷ []) p }
-    ensures not_meant { (p : ℕ) → result ≡ Err (NotMeant p) →
-        CannotBeMeant page.now ((place, patch_view patch.entry) ∷ []) p }
-    ensures across { (p : ℕ) → result ≡ Err (Across p) →
-        StandAcross page.now ((place, patch_view patch.entry) ∷ []) p }
-    ensures past_end { (p : ℕ) → result ≡ Err (EndOfPage p) →
-        StandsPastEnd page.now ((place, patch_view patch.entry) ∷ []) p }
-    ensures not_written { (p : ℕ) → result ≡ Err (NotWritten p) →
-        CannotBeWritten page.now ((place, patch_view patch.entry) ∷ []) p }
-    ensures misread { (p cause : ℕ) → result ≡ Err (Misread p cause) →
-        MayBeMisread page.now ((place, patch_view patch.entry) ∷ []) p cause }
-    ensures read_otherwise { (p : ℕ) → result ≡ Err (ReadOtherwise p) →
-        CannotBeRead page.now ((place, patch_view patch.entry) ∷ []) p }
-{
-    patch_each(alloc, page, &[PlacedPatch { place, patch }])
 }

@@ -105,6 +105,9 @@ tagged_is_whole elements tree tail number place o p e s n w = λ other t.
     let is : IsWholeAt elements tree tail number place = MatchOption-at_none _ _ n w in
     subst (IsWholeAt elements tree tail number) (same_Some place other (sym s ∙ e ∙ t)) is
 
+pub whole_there : (elements : List Keyed) (tree : Tree) (tail number place : ℕ) → place_of tree number ≡ Some place → IsWholeAt elements tree tail number place → IsWholeOf elements tree tail number
+whole_there elements tree tail number place e w = λ other t. subst (IsWholeAt elements tree tail number) (same_Some place other (sym e ∙ t)) w
+
 pub tagged_is_crossed : (elements : List Keyed) (tree : Tree) (tail number place at : ℕ) (o p : Option ℕ) → o ≡ place_of tree number → o ≡ Some place → p ≡ Some at →
     IfSome p (IsCrossedIn elements tree tail number place) → IsCrossedOf elements tree tail number (record { place = place; at = at })
 tagged_is_crossed elements tree tail number place at o p e s n w =

@@ -7,3 +7,5 @@ pub mod Reasons
 pub mod Sources
 pub mod Worked
 pub mod Told
+pub mod InOrder
+pub mod Unchanged

@@ -78,21 +78,21 @@ edits_reason_of_edit edits tree page sorted r edit.OutOfMemory order is says = t
 
 -- the elements that are whole, and the one that isn't
 
-pub whole_selected : (page : List ℕ) (tree : Tree) (numbers same : List ℕ) (found : Option Crossed) → same ≡ numbers → found ≡ None → IfNone found (All (IsWhole page tree) same) → All (IsWhole page tree) numbers
-whole_selected page tree numbers same found e n h = subst (All (IsWhole page tree)) e (MatchOption-at_none _ _ n h)
+pub whole_selected : (page own : List ℕ) (tree : Tree) (numbers same : List ℕ) (found : Option Crossed) → same ≡ numbers → found ≡ None → own ≡ page → IfNone found (All (IsWhole own tree) same) → All (IsWhole page tree) numbers
+whole_selected page own tree numbers same found e n p h = subst (λ (q : List ℕ). All (IsWhole q tree) numbers) p (subst (All (IsWhole own tree)) e (MatchOption-at_none _ _ n h))
 
-pub not_whole : (e : Css) (tree : Tree) (page numbers same : List ℕ) (found : Option Crossed) (crossed : Crossed) → AreFound (page_of tree) e numbers → same ≡ numbers → found ≡ Some crossed →
-    IfSome found (λ (c : Crossed). IsOneCrossed page tree same c.place c.at) → IsNotWhole e tree page crossed.place crossed.at
-not_whole e tree page numbers same found crossed are i n h = record {
+pub not_whole : (e : Css) (tree : Tree) (page own numbers same : List ℕ) (found : Option Crossed) (crossed : Crossed) → AreFound (page_of tree) e numbers → same ≡ numbers → found ≡ Some crossed →
+    own ≡ page → IfSome found (λ (c : Crossed). IsOneCrossed own tree same c.place c.at) → IsNotWhole e tree page crossed.place crossed.at
+not_whole e tree page own numbers same found crossed are i n p h = record {
   numbers = numbers;
   found = are;
-  one = subst (λ (xs : List ℕ). IsOneCrossed page tree xs crossed.place crossed.at) i (MatchOption-at_some _ _ crossed n h);
+  one = subst (λ (q : List ℕ). IsOneCrossed q tree numbers crossed.place crossed.at) p (subst (λ (xs : List ℕ). IsOneCrossed own tree xs crossed.place crossed.at) i (MatchOption-at_some _ _ crossed n h));
 }
 
-pub one_not_whole : (edits : List (ℕ × Patch)) (tree : Tree) (page numbers same : List ℕ) (found : Option Crossed) (crossed : Crossed) → AreNumbersOf edits numbers → same ≡ numbers → found ≡ Some crossed →
-    IfSome found (λ (c : Crossed). IsOneCrossed page tree same c.place c.at) → IsOneNotWhole edits tree page crossed.place crossed.at
-one_not_whole edits tree page numbers same found crossed are i n h = record {
+pub one_not_whole : (edits : List (ℕ × Patch)) (tree : Tree) (page own numbers same : List ℕ) (found : Option Crossed) (crossed : Crossed) → AreNumbersOf edits numbers → same ≡ numbers → found ≡ Some crossed →
+    own ≡ page → IfSome found (λ (c : Crossed). IsOneCrossed own tree same c.place c.at) → IsOneNotWhole edits tree page crossed.place crossed.at
+one_not_whole edits tree page own numbers same found crossed are i n p h = record {
   numbers = numbers;
   are_numbers = are;
-  one = subst (λ (xs : List ℕ). IsOneCrossed page tree xs crossed.place crossed.at) i (MatchOption-at_some _ _ crossed n h);
+  one = subst (λ (q : List ℕ). IsOneCrossed q tree numbers crossed.place crossed.at) p (subst (λ (xs : List ℕ). IsOneCrossed own tree xs crossed.place crossed.at) i (MatchOption-at_some _ _ crossed n h));
 }

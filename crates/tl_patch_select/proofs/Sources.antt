@@ -76,7 +76,7 @@ row_more tree tail row place all h from = record {
 }
 
 -- a row beyond the last comes from nowhere
-none_beyond : (tree : Tree) (row : ℕ) → length (rows_in tree) ≤ row → place_of tree row ≡ None
+pub none_beyond : (tree : Tree) (row : ℕ) → length (rows_in tree) ≤ row → place_of tree row ≡ None
 none_beyond tree row l =
     ap (λ (o : Option Row). option_map (λ (s : Source). s.start) (option_and_then (node_source tree) (option_map (λ (r : Row). r.node) o))) (slice_get_past (rows_in tree) row l)
 

@@ -10,7 +10,7 @@ use crate::selected::Selected;
 use crate::whole::find_crossed;
 use std::alloc::Global;
 use tl_css::Selector;
-use tl_patch_edit::{ElementPatch, patch_elements};
+use tl_patch_edit::{ElementPatch, TokenizedPage};
 use tl_tree::Tree;
 
 /// The page with this patch of each element where the selector holds, and of no other byte. The
@@ -34,10 +34,15 @@ pub fn edit_selected(
         (IsElementReason selector.now (patch_view patch.entry) tree.now page.now) }
 {
     let selected = Selected::of(alloc, tree, selector)?;
+    if selected.numbers.is_empty() {
+        let patched = Patched::unchanged(alloc, page)?;
+        return Ok(patched);
+    }
     if let Some(at) = selected.untagged_at(tree, page.len()) {
         return Err(SelectionEditError::Untagged(at));
     }
-    let found = find_crossed(alloc, page, tree, selected.numbers.as_slice())?;
+    let tokenized = TokenizedPage::of(alloc, page)?;
+    let found = find_crossed(alloc, &tokenized, tree, selected.numbers.as_slice())?;
     if let Some(crossed) = found {
         return Err(SelectionEditError::NotWhole(crossed.place, crossed.at));
     }
@@ -45,6 +50,6 @@ pub fn edit_selected(
         numbers: _numbers,
         places,
     } = selected;
-    let bytes = patch_elements(alloc, page, places.as_slice(), patch)?;
+    let bytes = tokenized.patch_elements(alloc, places.as_slice(), patch)?;
     Ok(Patched { bytes, places })
 }

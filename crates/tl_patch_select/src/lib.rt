@@ -5,6 +5,7 @@ mod edit_error;
 mod edited;
 mod error;
 pub mod examples;
+mod in_order;
 mod node_change;
 mod node_edit;
 mod node_edits;

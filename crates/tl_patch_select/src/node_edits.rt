@@ -9,7 +9,7 @@ use crate::patched::Patched;
 use crate::selected::{place_of, places_in_order, put_in_order, untagged_at};
 use crate::whole::find_crossed;
 use std::alloc::{AllocError, Global};
-use tl_patch_edit::{PlacedPatch, patch_each};
+use tl_patch_edit::{PlacedPatch, TokenizedPage};
 use tl_tree::Tree;
 
 fn numbers_of(alloc: Global, edits: &[NodeEdit<'_>]) -> Result<Vec<usize>, AllocError>
@@ -91,16 +91,21 @@ pub fn edit_nodes(
     ensures refused { IfErr result
         (AreEditsReason (map edit_of edits.now) tree.now page.now) }
 {
+    if edits.is_empty() {
+        let patched = Patched::unchanged(alloc, page)?;
+        return Ok(patched);
+    }
     let numbers = numbers_in_order(alloc, edits)?;
     if let Some(at) = untagged_at(tree, page.len(), numbers.as_slice()) {
         return Err(SelectionEditError::Untagged(at));
     }
-    let found = find_crossed(alloc, page, tree, numbers.as_slice())?;
+    let tokenized = TokenizedPage::of(alloc, page)?;
+    let found = find_crossed(alloc, &tokenized, tree, numbers.as_slice())?;
     if let Some(crossed) = found {
         return Err(SelectionEditError::NotWhole(crossed.place, crossed.at));
     }
     let places = places_in_order(alloc, tree, numbers.as_slice())?;
     let patches = edits_in_order(alloc, tree, edits)?;
-    let bytes = patch_each(alloc, page, patches.as_slice())?;
+    let bytes = tokenized.patch_each(alloc, patches.as_slice())?;
     Ok(Patched { bytes, places })
 }

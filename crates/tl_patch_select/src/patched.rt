@@ -1,5 +1,7 @@
 //! A page with the tags changed where a selector holds.
-ghost use Rattle.std.specs.Prelude.{◌≡◌, IfErr, IfOk, map};
+ghost use Rattle.std.specs.Prelude.{[], ◌≡◌, IfErr, IfOk, map};
+ghost use Rattle.tl_patch_edit.specs.Kept.{KeepRawTexts};
+ghost use Rattle.tl_patch_edit.specs.Several.{AreEdited};
 ghost use Rattle.tl_patch.specs.PatchView.{change_view, patch_view};
 ghost use Rattle.tl_patch_select.specs.Patched.{IsPatchedWhere, changes_at, missing_tag};
 ghost use Rattle.tl_patch_select.specs.Reasons.{IsTagReason};
@@ -9,6 +11,7 @@ use crate::selected::Selected;
 use std::alloc::{AllocError, Global};
 use tl_css::Selector;
 use tl_patch::{Change, TagPatch, patch};
+use tl_patch_edit::unchanged;
 use tl_tree::Tree;
 
 /// A page with changes, and the bytes of the page at which the start tags begin of the elements
@@ -18,6 +21,21 @@ use tl_tree::Tree;
 pub struct Patched {
     pub bytes: Vec<u8>,
     pub places: Vec<usize>,
+}
+
+impl Patched {
+    /// A page as it is.
+    pub(crate) fn unchanged(alloc: Global, page: &[u8]) -> Result<Patched, AllocError>
+        ensures edited { IfOk result (λ own. AreEdited [] page.now own.bytes.items) }
+        ensures kept { IfOk result (λ own. KeepRawTexts [] page.now) }
+        ensures places { IfOk result (λ own. own.places.items ≡ []) }
+    {
+        let bytes = unchanged(alloc, page)?;
+        Ok(Patched {
+            bytes,
+            places: Vec::new(alloc),
+        })
+    }
 }
 
 // A change at each of these places.

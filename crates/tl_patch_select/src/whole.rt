@@ -8,10 +8,11 @@ ghost use Rattle.tl_patch_select.specs.Inner.Sources.{AreRows, AreRowsUpTo, AreS
 ghost use Rattle.tl_patch_select.specs.Whole.{ComesFrom, IsCrossedAt, IsOneCrossed, IsWhole, IsWholeIn, end_of};
 ghost use Rattle.tl_patch_select.specs.declared.ranges.Keyed.{Keyed};
 
+use crate::in_order::are_whole;
 use crate::ranges::{ByKey, Keyed, Range, count_before, sort};
 use crate::selected::place_of;
 use std::alloc::{AllocError, Global};
-use tl_patch_edit::{Stretch, stretches};
+use tl_patch_edit::{Stretch, TokenizedPage, stretches};
 use tl_tree::Tree;
 
 /// Where the start tag begins of an element that isn't whole, and what crosses it.
@@ -113,14 +114,14 @@ fn in_order(alloc: Global, elements: &[Stretch]) -> Result<Vec<Keyed>, AllocErro
 }
 
 // Where an element ends in a tree.
-fn end_of(tree: &Tree<'_>, number: usize) -> usize
+pub(crate) fn end_of(tree: &Tree<'_>, number: usize) -> usize
     ensures { result ≡ end_of tree.now number }
 {
     tree.end(number).unwrap_or(0)
 }
 
 // Whether a key is this one.
-fn is_key(one: Keyed, key: usize) -> bool
+pub(crate) fn is_key(one: Keyed, key: usize) -> bool
     ensures yes { result ≡ true → one.key ≡ key }
     ensures no { result ≡ false → one.key ≡ key → ⊥ }
 {
@@ -264,20 +265,21 @@ fn last_crossed(
 #[tactic(auto, using(crate::proofs::Crossing::all_whole_of, crate::proofs::Crossing::one_crossed_of))]
 pub(crate) fn find_crossed(
     alloc: Global,
-    page: &[u8],
+    page: &TokenizedPage<'_>,
     tree: &Tree<'_>,
     numbers: &[usize],
 ) -> Result<Option<Crossed>, AllocError>
     ensures whole { IfOk result (λ found.
-        IfNone found (All (IsWhole page.now tree.now) numbers.now)) }
+        IfNone found (All (IsWhole page.now.page.now tree.now) numbers.now)) }
     ensures crossed { IfOk result (λ found. IfSome found (λ crossed.
-        IsOneCrossed page.now tree.now numbers.now crossed.place crossed.at)) }
+        IsOneCrossed page.now.page.now tree.now numbers.now crossed.place crossed.at)) }
 {
-    if numbers.is_empty() {
+    let found = page.stretches(alloc)?;
+    let elements = in_order(alloc, found.elements.as_slice())?;
+    let are_whole = are_whole(elements.as_slice(), tree, numbers);
+    if are_whole {
         return Ok(None);
     }
-    let found = stretches(alloc, page)?;
-    let elements = in_order(alloc, found.elements.as_slice())?;
     let mut sources = Sources::of(alloc, tree, found.tail)?;
     Ok(last_crossed(elements.as_slice(), &mut sources, tree, numbers))
 }

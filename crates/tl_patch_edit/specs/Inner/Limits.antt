@@ -38,6 +38,11 @@ is_misread_in tokens limits ask =
     && (is_raw_at tokens ask.from && nat_lt limits.unsure ask.from))
     || (list_any is_unsure_put ask.put && nat_lt ask.from limits.raw_until)
 
+-- what is asked for is read as markup in no page: no text that would be is put, and no such name
+pub record IsDoubtless (one : PlacedAsk) : Type 0 where
+  pub text : list_any is_markup_put (ask_view one.ask).put ≡ false
+  pub name : list_any is_unsure_put (ask_view one.ask).put ≡ false
+
 abbrev pub AreKept : List Piece → List PlacedAsk → Type 0
 AreKept ps asks =
     All (λ (one : PlacedAsk). is_misread ps (asks_view asks) (ask_view one.ask) ≡ false) asks

@@ -18,6 +18,4 @@ returns-in-Ok c =
     let asks : List PlacedAsk = c.in_ok-asks.asks.items in
     comments_gone page text tokens c.args.places.now asks (parts_view parts) c.in_ok-tokens.ensures.pieces
     (subst (λ (ts : List Token). AreCommentAsks 0 ts c.args.places.now asks) c.as_slice-2.ensures.value c.in_ok-asks.ensures) c.in_ok-parts.ensures
-    (subst (λ (bs : List PlacedAsk). IsSplicedPageOf (asks_view bs) (parts_view parts) page text) c.as_slice-4.ensures.value
-    (subst (λ (xs : List Part). IsSplicedPageOf (asks_view c.as_slice-4.result.now) (parts_view xs) page text) c.as_slice-3.ensures.value
-    c.in-Ok.ensures.text))
+    (subst (λ (bs : List PlacedAsk). IsSplicedPageOf (asks_view bs) (parts_view parts) page text) c.as_slice-3.ensures.value c.in-Ok.ensures.text)

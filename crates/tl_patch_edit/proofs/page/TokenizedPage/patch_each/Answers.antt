@@ -1,12 +1,11 @@
-use Rattle.std.proofs.Common.{◌≡◌, length, ℕ, List, [], ◌++◌, ap, sym, subst, subst₂, ◌∙◌}
+use Rattle.std.proofs.Common.{◌≡◌, length, ℕ, List, sym, subst, ◌∙◌}
 use Rattle.std.proofs.lemmas.Bool.{eqb-true}
 use Rattle.tl_patch_edit.specs.Kept.{KeepRawTexts}
 use Rattle.tl_patch_edit.specs.Several.{AreEdited}
 use Rattle.tl_patch_edit.specs.View.{patches_view}
 use Rattle.tl_patch_edit.specs.declared.ask.PlacedPatch.{PlacedPatch}
-use Rattle.tl_patch_edit.proofs.Misread.{none_kept}
-use Rattle.tl_patch_edit.proofs.Refusals.{no_patches, none_edited, of_error, some_patches}
-use Rattle.tl_patch_edit.proofs.several.patch_each.Goals as goal
+use Rattle.tl_patch_edit.proofs.Refusals.{no_patches, of_error, some_patches}
+use Rattle.tl_patch_edit.proofs.page.TokenizedPage.patch_each.Goals as goal
 
 pub returns-clause-no_start : goal.returns-clause-no_start
 returns-clause-no_start c = λ p e. of_error _ _ _ c.with_patches.ensures.error e
@@ -31,17 +30,15 @@ returns-clause-read_otherwise c = λ p e. of_error _ _ _ c.with_patches.ensures.
 
 pub returns-then-is_empty-clause-edited : goal.returns-then-is_empty-clause-edited
 returns-then-is_empty-clause-edited c =
-    let page : List ℕ = c.args.page.now in
+    let page : List ℕ = c.args.self.page.now in
     let zero : length c.args.patches.now ≡ 0 = eqb-true (length c.args.patches.now) 0 (sym c.is_empty.ensures ∙ c.if-is_empty.true) in
-    let none : c.args.patches.now ≡ [] = no_patches c.args.patches.now zero in
-    let is : c.extend_from_slice.new.self.items ≡ page = c.in_ok-extend_from_slice.ensures.items ∙ ap (λ (xs : List ℕ). xs ++ page) c.new-text.ensures.items in
-    subst₂ (λ (patches : List PlacedPatch) (text : List ℕ). AreEdited (patches_view patches) page text) (sym none) (sym is) (none_edited page)
+    subst (λ (patches : List PlacedPatch). AreEdited (patches_view patches) page c.in_ok-text.text.items) (sym (no_patches c.args.patches.now zero)) c.in_ok-text.ensures.edited
 
 pub returns-then-is_empty-clause-kept : goal.returns-then-is_empty-clause-kept
 returns-then-is_empty-clause-kept c =
-    let page : List ℕ = c.args.page.now in
+    let page : List ℕ = c.args.self.page.now in
     let zero : length c.args.patches.now ≡ 0 = eqb-true (length c.args.patches.now) 0 (sym c.is_empty.ensures ∙ c.if-is_empty.true) in
-    subst (λ (patches : List PlacedPatch). KeepRawTexts (patches_view patches) page) (sym (no_patches c.args.patches.now zero)) (none_kept page)
+    subst (λ (patches : List PlacedPatch). KeepRawTexts (patches_view patches) page) (sym (no_patches c.args.patches.now zero)) c.in_ok-text.ensures.kept
 
 pub with_patches-requires : goal.with_patches-requires
 with_patches-requires c = some_patches c.args.patches.now (sym c.is_empty.ensures ∙ c.if-is_empty.false)
