@@ -195,8 +195,8 @@ fn all_unstarted(
     Ok(unstarted)
 }
 
-/// Those of some places of a page at which no start tag begins, in order. A place that stands behind
-/// a greater one is named as well, so the places are given in order.
+/// Those of some places of a page at which no start tag begins, in order. A place behind a greater
+/// one is named as well, so the places are given in order.
 pub fn unstarted_at(alloc: Global, page: &[u8], places: &[usize]) -> Result<Vec<usize>, AllocError>
     ensures exact { IfOk result (λ unstarted.
         unstarted.items ≡ unstarted_in page.now places.now) }
