@@ -4,6 +4,7 @@ pub mod Joined
 pub mod Tabled
 pub mod Within
 pub mod Marks
+pub mod Rest
 pub mod Answered
 pub mod Unanswered
 pub mod Placed

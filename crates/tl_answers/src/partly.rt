@@ -1,14 +1,11 @@
 //! A page with those of some tags or elements changed that can be.
-ghost use Rattle.std.specs.Prelude.{IfOk, [], length, map, reverse, ◌≡◌};
-ghost use Rattle.tl_answers.specs.Partly.{AreLeft, AreWhole, IsDoneOf, IsDonePartly, changed_each};
-ghost use Rattle.tl_answers.specs.Rewritten.{sets_of};
+ghost use Rattle.std.specs.Prelude.{IfErr, IfOk, [], map, ◌≡◌};
+ghost use Rattle.tl_answers.specs.Partly.{AreLeft, AreTaggedAll, AreWhole, IsChangesRefusal, IsDoneOf, IsDonePartly, IsElementRestRefusal, IsRestUndone, IsTagRestRefusal, IsUndonePartly, changed_each, rewritten_each};
 ghost use Rattle.tl_patch.specs.PatchView.{change_view};
 ghost use Rattle.tl_patch_edit.specs.View.{patch_view};
 ghost use Rattle.tl_patch_select.specs.NodeEdits.{AreNodesEdited};
 ghost use Rattle.tl_patch_select.specs.Nodes.{AreNodesPatched, change_of};
-ghost use Rattle.tl_patch_select.specs.Partly.{AreTagged, patched_each, put_in_places};
-ghost use Rattle.tl_tree.specs.TreeView.{rows_in};
-ghost use Rattle.tl_values.specs.NewValues.{values_got};
+ghost use Rattle.tl_patch_select.specs.Partly.{patched_each};
 
 use crate::edit::{Edit, Refusal, changes_of};
 use crate::edited::Edited;
@@ -39,8 +36,10 @@ fn with_changes(
     tree: &Tree<'_>,
     changes: &[NodeChange<'_>],
 ) -> Result<Patched, Refusal>
-    ensures { IfOk result (λ p. AreNodesPatched (map change_of changes.now) tree.now page.now
+    ensures done { IfOk result (λ p. AreNodesPatched (map change_of changes.now) tree.now page.now
         p.bytes.items p.places.items) }
+    ensures told { IfErr result
+        (IsChangesRefusal (map change_of changes.now) tree.now page.now) }
 {
     match patch_nodes(alloc, page, tree, changes) {
         Ok(patched) => Ok(patched),
@@ -75,9 +74,11 @@ fn with_change(
     numbers: &[usize],
     change: Change<'_>,
 ) -> Result<Patched, Refusal>
-    ensures { IfOk result (λ p. AreNodesPatched
+    ensures done { IfOk result (λ p. AreNodesPatched
         (changed_each (change_view change.entry) numbers.now) tree.now page.now
         p.bytes.items p.places.items) }
+    ensures told { IfErr result (IsChangesRefusal
+        (changed_each (change_view change.entry) numbers.now) tree.now page.now) }
 {
     let changes = changed_each(alloc, numbers, change)?;
     with_changes(alloc, page, tree, changes.as_slice())
@@ -92,9 +93,11 @@ fn with_values(
     key: &[u8],
     rewrite: &Rewrite<'_>,
 ) -> Result<Patched, Refusal>
-    ensures { IfOk result (λ p. AreNodesPatched
-        (sets_of key.now (values_got rewrite.now key.now (rows_in tree.now) numbers.now))
-        tree.now page.now p.bytes.items p.places.items) }
+    ensures done { IfOk result (λ p. AreNodesPatched
+        (rewritten_each rewrite.now key.now tree.now numbers.now) tree.now page.now
+        p.bytes.items p.places.items) }
+    ensures told { IfErr result (IsChangesRefusal
+        (rewritten_each rewrite.now key.now tree.now numbers.now) tree.now page.now) }
 {
     let values = rewrite.values(alloc, tree, numbers, key)?;
     let changes = changes_of(alloc, key, values.as_slice())?;
@@ -112,10 +115,10 @@ fn changed_partly(
     ensures done { IfOk result (λ new. AreNodesPatched
         (changed_each (change_view change.entry) new.numbers.items) tree.now page.now
         new.patched.bytes.items new.patched.places.items) }
-    ensures left { IfOk result (λ new. AreTagged tree.now page.now numbers.now
-        new.numbers.items new.left_out.crossed.items new.left_out.refused.items) }
-    ensures put_in { IfOk result (λ new. new.left_out.untagged.items
-        ≡ put_in_places tree.now (length page.now) (reverse numbers.now)) }
+    ensures left { IfOk result (λ new.
+        AreTaggedAll tree.now page.now numbers.now new.numbers.items new.left_out) }
+    ensures told { IfErr result (IsTagRestRefusal (changed_each (change_view change.entry))
+        tree.now page.now numbers.now) }
 {
     let left = tagged_nodes(alloc, page, tree, numbers)?;
     let patched = with_change(alloc, page, tree, left.numbers.as_slice(), change)?;
@@ -136,12 +139,12 @@ fn rewritten_partly(
     rewrite: &Rewrite<'_>,
 ) -> Result<PartlyPatched, Refusal>
     ensures done { IfOk result (λ new. AreNodesPatched
-        (sets_of key.now (values_got rewrite.now key.now (rows_in tree.now) new.numbers.items))
-        tree.now page.now new.patched.bytes.items new.patched.places.items) }
-    ensures left { IfOk result (λ new. AreTagged tree.now page.now numbers.now
-        new.numbers.items new.left_out.crossed.items new.left_out.refused.items) }
-    ensures put_in { IfOk result (λ new. new.left_out.untagged.items
-        ≡ put_in_places tree.now (length page.now) (reverse numbers.now)) }
+        (rewritten_each rewrite.now key.now tree.now new.numbers.items) tree.now page.now
+        new.patched.bytes.items new.patched.places.items) }
+    ensures left { IfOk result (λ new.
+        AreTaggedAll tree.now page.now numbers.now new.numbers.items new.left_out) }
+    ensures told { IfErr result (IsTagRestRefusal
+        (rewritten_each rewrite.now key.now tree.now) tree.now page.now numbers.now) }
 {
     let left = tagged_nodes(alloc, page, tree, numbers)?;
     let patched = with_values(alloc, page, tree, left.numbers.as_slice(), key, rewrite)?;
@@ -164,8 +167,9 @@ fn with_elements(
         (patched_each (patch_view patch.entry) new.numbers.items) tree.now page.now
         new.patched.bytes.items new.patched.places.items) }
     ensures left { IfOk result (λ new. AreWhole (patch_view patch.entry) tree.now page.now
-        numbers.now new.numbers.items new.left_out.untagged.items new.left_out.crossed.items
-        new.left_out.refused.items) }
+        numbers.now new.numbers.items new.left_out) }
+    ensures told { IfErr result
+        (IsElementRestRefusal (patch_view patch.entry) tree.now page.now numbers.now) }
 {
     match edit_partly(alloc, page, tree, numbers, patch) {
         Ok(own) => Ok(own),
@@ -206,8 +210,8 @@ impl Edit<'_> {
         ensures done { IfOk result (λ new. IsDoneOf self.now tree.now new.numbers.items page.now
             new.patched.bytes.items new.patched.places.items) }
         ensures left { IfOk result (λ new. AreLeft self.now tree.now page.now numbers.now
-            new.numbers.items new.left_out.untagged.items new.left_out.crossed.items
-            new.left_out.refused.items) }
+            new.numbers.items new.left_out) }
+        ensures told { IfErr result (IsRestUndone self.now tree.now page.now numbers.now) }
     {
         match self {
             Edit::Set(key, value) => {
@@ -246,10 +250,10 @@ pub fn edited_partly(
     selector: &Selector,
     page: &[u8],
 ) -> Result<PartlyEdited, Refusal>
-    ensures { IfOk result (λ own. IsDonePartly edit.now selector.now page.now
-        own.edited.patched.bytes.items own.edited.patched.places.items
-        own.left_out.untagged.items own.left_out.crossed.items own.left_out.refused.items
+    ensures done { IfOk result (λ own. IsDonePartly edit.now selector.now page.now
+        own.edited.patched.bytes.items own.edited.patched.places.items own.left_out
         own.edited.meant) }
+    ensures told { IfErr result (IsUndonePartly edit.now selector.now page.now) }
 {
     let tree = Tree::read(alloc, page, FLAGS)?;
     let numbers = select(alloc, &tree, selector)?;

@@ -1,8 +1,8 @@
 //! A page without its comments, or some of them.
 ghost use Rattle.regex.specs.Bytes.{matcher_pattern, regex_pattern};
 ghost use Rattle.std.specs.Option.{option_copied};
-ghost use Rattle.std.specs.Prelude.{[], IfOk, OnOk, filter, if◌then◌else◌, ◌++◌, ◌∷◌, ◌≡◌};
-ghost use Rattle.tl_answers.specs.Uncommented.{IsUncommented, comments_meant, is_matched, said_at};
+ghost use Rattle.std.specs.Prelude.{[], IfErr, IfOk, OnOk, filter, if◌then◌else◌, ◌++◌, ◌∷◌, ◌≡◌};
+ghost use Rattle.tl_answers.specs.Uncommented.{IsUncommentRefusal, IsUncommented, comments_meant, is_matched, refusal_of_comment, refusal_of_reading, said_at};
 ghost use Rattle.tl_answers.specs.declared.uncommented.CommentRefusal.TheVariants.{OutOfMemory};
 ghost use Rattle.tl_tree.specs.TreeView.{rows_in};
 
@@ -33,6 +33,8 @@ impl From<AllocError> for CommentRefusal {
 }
 
 impl From<ReadError> for CommentRefusal {
+    ghost from_gives = { λ error why. why ≡ refusal_of_reading error };
+
     fn from(error: ReadError) -> Self {
         match error {
             ReadError::OutOfMemory => CommentRefusal::OutOfMemory,
@@ -42,6 +44,8 @@ impl From<ReadError> for CommentRefusal {
 }
 
 impl From<CommentError> for CommentRefusal {
+    ghost from_gives = { λ error why. why ≡ refusal_of_comment error };
+
     fn from(error: CommentError) -> Self {
         match error {
             CommentError::OutOfMemory => CommentRefusal::OutOfMemory,
@@ -118,10 +122,12 @@ pub fn uncommented_page(
     regex: Option<&Regex>,
     page: &[u8],
 ) -> Result<Patched, CommentRefusal>
-    ensures { IfOk result (λ p.
+    ensures gone { IfOk result (λ p.
         IsUncommented (option_copied regex.entry) page.now p.bytes.items p.places.items) }
+    ensures told { IfErr result (IsUncommentRefusal (option_copied regex.entry) page.now) }
 {
     let tree = Tree::read(alloc, page, FLAGS)?;
     let numbers = comments_meant(alloc, regex, &tree)?;
-    Ok(uncomment_nodes(alloc, page, &tree, numbers.as_slice())?)
+    let patched = uncomment_nodes(alloc, page, &tree, numbers.as_slice())?;
+    Ok(patched)
 }

@@ -41,6 +41,8 @@ mod raw_texts;
 #[cfg(test)]
 mod references;
 #[cfg(test)]
+mod refusals;
+#[cfg(test)]
 mod said_nodes;
 #[cfg(test)]
 mod selected;

@@ -1,6 +1,7 @@
 pub mod View
 pub mod Seams
 pub mod Sayings
+pub mod Apart
 pub mod Asks
 pub mod Found
 pub mod Several

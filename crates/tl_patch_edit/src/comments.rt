@@ -1,8 +1,8 @@
 //! A page without some of its comments.
-ghost use Rattle.std.specs.Prelude.{[], IfOk, IfSome, OnOk, true, ◌++◌, ◌∷◌, ◌≡◌, ◌≤◌};
+ghost use Rattle.std.specs.Prelude.{[], IfErr, IfNone, IfOk, IfSome, OnOk, false, true, ◌++◌, ◌∷◌, ◌≡◌, ◌≤◌};
 ghost use Rattle.tl_html_tokens.specs.declared.stage.TokenKind.TheVariants.{Comment};
-ghost use Rattle.tl_patch_edit.specs.Comments.{AreCommentsGone};
-ghost use Rattle.tl_patch_edit.specs.Inner.CommentAsks.{AreCommentAsks, IsCommentAt, gone_ask};
+ghost use Rattle.tl_patch_edit.specs.Comments.{AreCommentsGone, AreCommentsRefused};
+ghost use Rattle.tl_patch_edit.specs.Inner.CommentAsks.{AreAsksRefused, AreCommentAsks, IsCommentAt, NoCommentFrom, gone_ask};
 ghost use Rattle.tl_patch_edit.specs.declared.comments.CommentError.TheVariants.{OutOfMemory};
 
 use crate::ask::{Ask, PlacedAsk, Put, Start, Turn, next};
@@ -39,6 +39,7 @@ impl From<AllocError> for CommentError {
 fn is_comment_at(token: &Token, place: usize) -> bool
     ensures start { result ≡ true → token.now.start ≡ place }
     ensures kind { result ≡ true → token.now.kind ≡ Comment }
+    ensures not { result ≡ false → token.now.start ≡ place → token.now.kind ≡ Comment → ⊥ }
 {
     token.start == place && matches!(token.kind, TokenKind::Comment)
 }
@@ -48,6 +49,7 @@ fn comment_from(tokens: &[Token], from: usize, place: usize) -> Option<Start>
     ensures comment { IfSome result (λ start.
         IsCommentAt tokens.now place start.number start.token) }
     ensures order { IfSome result (λ start. from ≤ start.number) }
+    ensures none { IfNone result (NoCommentFrom from tokens.now place) }
 {
     for at in from..tokens.len() {
         let is_it = is_comment_at(&tokens[at], place);
@@ -91,7 +93,8 @@ fn comment_asks(
     tokens: &[Token],
     places: &[usize],
 ) -> Result<Vec<PlacedAsk<'static>>, CommentError>
-    ensures { IfOk result (λ asks. AreCommentAsks 0 tokens.now places.now asks.items) }
+    ensures asks { IfOk result (λ asks. AreCommentAsks 0 tokens.now places.now asks.items) }
+    ensures error { IfErr result (AreAsksRefused tokens.now places.now) }
 {
     let mut asks = Vec::with_capacity(alloc, places.len())?;
     let mut from = 0usize;
@@ -116,14 +119,15 @@ pub fn without_comments(
     page: &[u8],
     places: &[usize],
 ) -> Result<Vec<u8>, CommentError>
-    ensures { IfOk result (λ text. AreCommentsGone places.now page.now text.items) }
+    ensures gone { IfOk result (λ text. AreCommentsGone places.now page.now text.items) }
+    ensures refused { IfErr result (AreCommentsRefused places.now page.now) }
 {
     let tokens = tokens(alloc, page)?;
     let parts = parts_of(alloc, page, tokens.as_slice())?;
     let asks = comment_asks(alloc, tokens.as_slice(), places)?;
     match spliced_page(alloc, page, parts, asks.as_slice(), 0) {
         Ok(text) => Ok(text),
-        Err(EditError::OutOfMemory) => Err(CommentError::OutOfMemory),
-        Err(_) => Err(CommentError::ReadOtherwise),
+        Err(EditError::ReadOtherwise(_)) => Err(CommentError::ReadOtherwise),
+        Err(_) => Err(CommentError::OutOfMemory),
     }
 }

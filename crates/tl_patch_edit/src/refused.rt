@@ -1,16 +1,15 @@
 //! Which of some patches are refused, each by itself.
 ghost use Rattle.std.specs.List.{All};
-ghost use Rattle.std.specs.Option.{option_to_list};
-ghost use Rattle.std.specs.Prelude.{[], IfNone, IfOk, IfSome, OnOk, false, if◌then◌else◌, is_some, length, true, ◌++◌, ◌∷◌, ◌<◌, ◌≡◌, ◌≤◌};
+ghost use Rattle.std.specs.Option.{option_map, option_to_list};
+ghost use Rattle.std.specs.Prelude.{IfNone, IfOk, IfSome, OnOk, Some, false, length, true, ◌++◌, ◌<◌, ◌≡◌, ◌≤◌};
 ghost use Rattle.tl_html_tokens.specs.Tokens.{AreTokensOf};
 ghost use Rattle.tl_html_tokens.specs.declared.stage.TokenKind.TheVariants.{StartTag};
+ghost use Rattle.tl_patch_edit.specs.Apart.{gone_with, refusal_of, refused_apart, unless_some, unstarted_in};
 ghost use Rattle.tl_patch_edit.specs.Errors.{IsRefused, LacksStartTag, pieces_in};
 ghost use Rattle.tl_patch_edit.specs.Found.{IsStartAt};
-ghost use Rattle.tl_patch_edit.specs.Inner.Apart.{ArePassed, IsReached, IsReachedAt, IsRefusedApart, NoStartThere};
-ghost use Rattle.tl_patch_edit.specs.Inner.Causes.{IsPlanError};
+ghost use Rattle.tl_patch_edit.specs.Inner.Apart.{ArePassed, IsReached, IsReachedAt, IsStartOfPage, NoStartThere, start_number};
 ghost use Rattle.tl_patch_edit.specs.Several.{AreExtents, IsMeantOfPage};
-ghost use Rattle.tl_patch_edit.specs.View.{patch_view, patches_view};
-ghost use Rattle.tl_patch_spec.specs.Patches.{asked_of};
+ghost use Rattle.tl_patch_edit.specs.View.{gone_view, patch_view, patches_view};
 ghost use Rattle.tl_patch_spec.specs.Tail.{elements_up_to_tail};
 ghost use Rattle.tl_patch_spec.specs.Together.{at_each};
 
@@ -35,6 +34,9 @@ fn is_reached(token: &Token, place: usize) -> bool
 
 // The number of the first token from one on that is the start tag at a place, or begins behind it.
 fn sought(tokens: &[Token], from: usize, place: usize) -> usize
+    requires { from ≤ length tokens.now }
+    ensures order { from ≤ result }
+    ensures within { result ≤ length tokens.now }
     ensures passed { ArePassed tokens.now place from result }
     ensures reached { IsReachedAt tokens.now place result }
 {
@@ -51,6 +53,7 @@ fn sought(tokens: &[Token], from: usize, place: usize) -> usize
 fn start_there(tokens: &[Token], number: usize, place: usize) -> Option<Start>
     ensures start { IfSome result (λ start.
         IsStartAt tokens.now place start.number start.token) }
+    ensures number { IfSome result (λ start. start.number ≡ number) }
     ensures none { IfNone result (NoStartThere tokens.now place number) }
 {
     if number >= tokens.len() {
@@ -77,8 +80,10 @@ fn unmeant<'n>(
     requires start { IsMeantOfPage page.now one }
     requires extents { AreExtents (elements_up_to_tail (pieces_in page.now)) extents.now }
     requires within { one.start.number < length extents.now }
-    ensures { IfOk result (λ found. IfSome found (IsPlanError one.entry.start.token.start
-        (asked_of (pieces_in page.now) one.entry.start.number (patch_view one.entry.patch)))) }
+    ensures error { IfOk result (λ found. found ≡ refusal_of page.now (gone_view gone.old)
+        (one.entry.start.token.start, patch_view one.entry.patch) (Some one.entry.start.number)) }
+    ensures gone { OnOk result (gone_view gone.new ≡ gone_with page.now (gone_view gone.old)
+        (one.entry.start.token.start, patch_view one.entry.patch) (Some one.entry.start.number)) }
 {
     let is_gone = is_gone(*gone, one.start.number);
     if is_gone {
@@ -89,29 +94,29 @@ fn unmeant<'n>(
             *gone = gone_after(one.patch, one.start.number, planned, *gone);
             Ok(None)
         }
-        Err(EditError::OutOfMemory) => Err(AllocError),
-        Err(error) => Ok(Some(error)),
+        Err(EditError::NotMeant(place)) => Ok(Some(EditError::NotMeant(place))),
+        Err(_) => Err(AllocError),
     }
 }
 
-// Why a patch is refused by itself, if the start tag of its element can only be the token of this
-// number.
+// Why a patch is refused by itself, where this is the start tag of its element.
 fn refused_one<'n>(
     alloc: Global,
     page: &'n [u8],
-    tokens: &[Token],
-    number: usize,
+    start: Option<Start>,
     one: PlacedPatch<'n>,
     extents: &[Extent],
     gone: &mut Gone,
 ) -> Result<Option<EditError>, AllocError>
-    requires tokens { AreTokensOf page.now tokens.now }
+    requires start { IfSome start (IsStartOfPage page.now one.place) }
     requires extents { AreExtents (elements_up_to_tail (pieces_in page.now)) extents.now }
     requires within { length (pieces_in page.now) ≤ length extents.now }
-    ensures { IfOk result (λ found. IfSome found
-        (IsRefusedApart page.now tokens.now number one.entry)) }
+    ensures error { IfOk result (λ found. found ≡ refusal_of page.now (gone_view gone.old)
+        (one.entry.place, patch_view one.entry.patch) (option_map start_number start)) }
+    ensures gone { OnOk result (gone_view gone.new ≡ gone_with page.now (gone_view gone.old)
+        (one.entry.place, patch_view one.entry.patch) (option_map start_number start)) }
 {
-    let Some(start) = start_there(tokens, number, one.place) else {
+    let Some(start) = start else {
         return Ok(Some(EditError::NoStartTag(one.place)));
     };
     let patch = one.patch;
@@ -133,8 +138,8 @@ fn push_unless(
     place: usize,
     unstarted: &mut Vec<usize>,
 ) -> Result<(), AllocError>
-    ensures { OnOk result (unstarted.new.items
-        ≡ unstarted.old.items ++ (if is_some start then [] else place ∷ [])) }
+    ensures { OnOk result (unstarted.new.items ≡ unstarted.old.items
+        ++ unless_some (option_map start_number start) place) }
 {
     if start.is_none() {
         unstarted.push(place)?;
@@ -154,7 +159,7 @@ fn all_refused<'n>(
     requires extents { AreExtents (elements_up_to_tail (pieces_in page.now)) extents.now }
     requires within { length (pieces_in page.now) ≤ length extents.now }
     ensures { IfOk result (λ errors.
-        All (IsRefused page.now (patches_view patches.now)) errors.items) }
+        errors.items ≡ refused_apart page.now (patches_view patches.now)) }
 {
     let mut errors = Vec::new(alloc);
     let mut from = 0usize;
@@ -162,7 +167,8 @@ fn all_refused<'n>(
     for at in 0..patches.len() {
         let one = patches[at];
         from = sought(tokens, from, one.place);
-        let found = refused_one(alloc, page, tokens, from, one, extents, &mut gone)?;
+        let start = start_there(tokens, from, one.place);
+        let found = refused_one(alloc, page, start, one, extents, &mut gone)?;
         push_if(found, &mut errors)?;
     }
     Ok(errors)
@@ -176,8 +182,7 @@ fn all_unstarted(
     places: &[usize],
 ) -> Result<Vec<usize>, AllocError>
     requires { AreTokensOf page.now tokens.now }
-    ensures { IfOk result (λ unstarted.
-        All (LacksStartTag page.now places.now) unstarted.items) }
+    ensures { IfOk result (λ unstarted. unstarted.items ≡ unstarted_in page.now places.now) }
 {
     let mut unstarted = Vec::new(alloc);
     let mut from = 0usize;
@@ -190,10 +195,12 @@ fn all_unstarted(
     Ok(unstarted)
 }
 
-/// Those of some places of a page at which no start tag begins. The places stand in order, else
-/// some are named at which one begins.
+/// Those of some places of a page at which no start tag begins, in order. A place behind a greater
+/// one is named as well, so the places are given in order.
 pub fn unstarted_at(alloc: Global, page: &[u8], places: &[usize]) -> Result<Vec<usize>, AllocError>
-    ensures { IfOk result (λ unstarted.
+    ensures exact { IfOk result (λ unstarted.
+        unstarted.items ≡ unstarted_in page.now places.now) }
+    ensures lack { IfOk result (λ unstarted.
         All (LacksStartTag page.now places.now) unstarted.items) }
 {
     let tokens = tokens(alloc, page)?;
@@ -201,16 +208,18 @@ pub fn unstarted_at(alloc: Global, page: &[u8], places: &[usize]) -> Result<Vec<
 }
 
 /// Why `patch_elements` can't make this patch of those elements for which it is so whatever the
-/// others are: no start tag begins at the place, or the patch isn't meant for that element. An
-/// element that goes with another one isn't named. The places stand in order, else some are named
-/// for which a start tag begins there.
+/// others are, in order: no start tag begins at the place, or the patch isn't meant for that
+/// element. An element that goes with another one isn't named. A place that stands behind a greater
+/// one is named as one without a start tag, so the places are given in order.
 pub fn refusals_at(
     alloc: Global,
     page: &[u8],
     places: &[usize],
     patch: ElementPatch<'_>,
 ) -> Result<Vec<EditError>, AllocError>
-    ensures { IfOk result (λ errors. All
+    ensures exact { IfOk result (λ errors. errors.items
+        ≡ refused_apart page.now (at_each (patch_view patch.entry) places.now)) }
+    ensures refused { IfOk result (λ errors. All
         (IsRefused page.now (at_each (patch_view patch.entry) places.now)) errors.items) }
 {
     let patches = each_at(alloc, places, patch)?;

@@ -1,9 +1,9 @@
 -- What crosses the elements of a page.
-use Rattle.std.proofs.Common.{Bool, List, None, Option, Some, [], ap, append-nil, arith, false, get_or, inl, inr, length, refl, slice_get, subst, sym, true, ℕ, ◌+◌, ◌++◌, ◌-◌, ◌<◌, ◌∙◌, ◌∷◌, ◌≡◌, ◌≤◌}
+use Rattle.std.proofs.Common.{Bool, List, None, Option, Some, [], ap, arith, false, get_or, inl, inr, length, refl, slice_get, subst, sym, take, true, ℕ, ◌+◌, ◌++◌, ◌-◌, ◌<◌, ◌∙◌, ◌∷◌, ◌≡◌, ◌≤◌}
 use Rattle.std.proofs.lemmas.Bool.{cases_Bool, ltb-false, ltb-true}
 use Rattle.std.proofs.lemmas.Option.{MatchOption-at_none, MatchOption-at_some, get_or_from_slice_get, none-some, same_Some, slice_get-get_or, slice_get_within}
-use Rattle.std.proofs.lemmas.List.{get_or_default}
-use Rattle.std.proofs.lemmas.List.Elements.{All-append, All-cons, Contains-get_or}
+use Rattle.std.proofs.lemmas.List.{get_or_default, take_all, take_more}
+use Rattle.std.proofs.lemmas.List.Elements.{Contains-get_or}
 use Rattle.std.specs.List.{All, Contains}
 use Rattle.std.specs.Option.{option_to_list}
 use Rattle.std.specs.Prelude.{IfNone, IfSome}
@@ -12,7 +12,7 @@ use Rattle.tl_patch_edit.specs.declared.reach.Stretch.{Stretch}
 use Rattle.tl_patch_select.specs.Inner.Ranges.{IsRising}
 use Rattle.tl_patch_select.specs.Inner.Sources.{IsCrossedIn, IsCrossedOf, IsOneCrossedIn, IsWholeAt, IsWholeOf, keyed_stretch, stretch_of_keyed}
 use Rattle.tl_patch_select.specs.Selected.{place_of}
-use Rattle.tl_patch_select.specs.Whole.{IsCrossedAt, IsOneCrossed, IsWhole, IsWholeIn}
+use Rattle.tl_patch_select.specs.Whole.{AreCrossed, AreThose, IsCrossedAt, IsCrossedOne, IsOneCrossed, IsWhole, IsWholeIn}
 use Rattle.tl_patch_select.specs.declared.ranges.Keyed.{Keyed}
 use Rattle.tl_patch_select.specs.declared.whole.Crossed.{Crossed}
 use Rattle.tl_patch_select.proofs.Bounded.{AreLess, AreNoLess, found_at, rises}
@@ -155,18 +155,22 @@ pub whole_of : (page : List ℕ) (tree : Tree) (tail number : ℕ) (elements : L
 whole_of page tree tail number elements all e t kept h = λ s among place.
     subst (λ n. IsWholeIn tree n number s) t (h s.start place (keyed_stretch s) (kept s (subst (λ (xs : List Stretch). Contains xs s) (sym e) among)) refl)
 
+crossed_one_of : (page : List ℕ) (tree : Tree) (tail number : ℕ) (elements : List Keyed) (all : List Stretch) (crossed : Crossed) → all ≡ stretches page → tail ≡ tail_begin page →
+    ((one : Keyed) → Contains elements one → Contains all (stretch_of_keyed one)) → IsCrossedOf elements tree tail number crossed → IsCrossedOne page tree number crossed
+crossed_one_of page tree tail number elements all crossed e t each h = record {
+  begins = h.begins;
+  stretch = stretch_of_keyed (h.is).one;
+  among = subst (λ (xs : List Stretch). Contains xs (stretch_of_keyed (h.is).one)) e (each (h.is).one (h.is).among);
+  start = (h.is).start;
+  crossed = subst (λ n. IsCrossedAt tree n number (stretch_of_keyed (h.is).one) crossed.at) t (h.is).crossed;
+}
+
 pub crossed_of : (page : List ℕ) (tree : Tree) (tail : ℕ) (numbers : List ℕ) (elements : List Keyed) (all : List Stretch) (crossed : Crossed) → all ≡ stretches page → tail ≡ tail_begin page →
     ((one : Keyed) → Contains elements one → Contains all (stretch_of_keyed one)) → IsOneCrossedIn elements tree tail numbers crossed → IsOneCrossed page tree numbers crossed.place crossed.at
 crossed_of page tree tail numbers elements all crossed e t each h = record {
   number = h.number;
   among = h.among;
-  crossed = record {
-    begins = (h.is).begins;
-    stretch = stretch_of_keyed ((h.is).is).one;
-    among = subst (λ (xs : List Stretch). Contains xs (stretch_of_keyed ((h.is).is).one)) e (each ((h.is).is).one ((h.is).is).among);
-    start = ((h.is).is).start;
-    crossed = subst (λ n. IsCrossedAt tree n h.number (stretch_of_keyed ((h.is).is).one) crossed.at) t ((h.is).is).crossed;
-  };
+  crossed = crossed_one_of page tree tail h.number elements all crossed e t each h.is;
 }
 
 pub all_whole_of : (page : List ℕ) (tree : Tree) (tail now : ℕ) (numbers : List ℕ) (elements : List Keyed) (all : List Stretch) (found : Option Crossed) → all ≡ stretches page → tail ≡ tail_begin page → now ≡ tail →
@@ -182,20 +186,57 @@ one_crossed_of page tree tail now numbers elements all (Some x) e t n each h = c
 
 -- all that aren't whole
 
-pub crossed_more : (elements : List Keyed) (tree : Tree) (tail now : ℕ) (numbers : List ℕ) (at d : ℕ) (found : Option Crossed) (old new : List Crossed) → now ≡ tail → at < length numbers →
-    IfSome found (IsCrossedOf elements tree now (get_or numbers at d)) → new ≡ old ++ option_to_list found → All (IsOneCrossedIn elements tree tail numbers) old → All (IsOneCrossedIn elements tree tail numbers) new
-crossed_more elements tree tail now numbers at d None old new t l w e a = subst (All (IsOneCrossedIn elements tree tail numbers)) (sym (e ∙ append-nil old)) a
-crossed_more elements tree tail now numbers at d (Some crossed) old new t l w e a =
-    let P : Crossed → Type 0 = IsOneCrossedIn elements tree tail numbers in
-    let is : P crossed = record {
-      number = get_or numbers at d;
-      among = Contains-get_or numbers at d l;
-      is = subst (λ n. IsCrossedOf elements tree n (get_or numbers at d) crossed) t w;
-    } in
-    let one : All P (crossed ∷ []) = All-cons P crossed [] is (λ k d' m. absurd (omega arith)) in
-    subst (All P) (sym e) (All-append P old (crossed ∷ []) a one)
+one_well : (W : ℕ → Type 0) (C : ℕ → Crossed → Type 0) (n : ℕ) (ns : List ℕ) (cs : List Crossed) → W n → AreThose W C ns cs → AreThose W C (n ∷ ns) cs
+one_well W C n ns [] w h = (w, h)
+one_well W C n ns (c ∷ cs) w h = inl (w, h)
+
+those_append : (W : ℕ → Type 0) (C : ℕ → Crossed → Type 0) (ns ms : List ℕ) (cs ds : List Crossed) → AreThose W C ns cs → AreThose W C ms ds → AreThose W C (ns ++ ms) (cs ++ ds)
+those_append W C [] ms [] ds h k = k
+those_append W C [] ms (c ∷ cs) ds h k = absurd h
+those_append W C (n ∷ ns) ms [] ds h k = one_well W C n (ns ++ ms) ds h.0 (those_append W C ns ms [] ds h.1 k)
+those_append W C (n ∷ ns) ms (c ∷ cs) ds h k = elim h [
+  | inl w ↦ inl (w.0, those_append W C ns ms (c ∷ cs) ds w.1 k)
+  | inr w ↦ inr (w.0, those_append W C ns ms cs ds w.1 k)
+]
+
+those_same : (W V : ℕ → Type 0) (C D : ℕ → Crossed → Type 0) (ns : List ℕ) (cs : List Crossed) → ((n : ℕ) → W n → V n) → ((n : ℕ) (c : Crossed) → C n c → D n c) → AreThose W C ns cs → AreThose V D ns cs
+those_same W V C D [] [] f g h = tt
+those_same W V C D [] (c ∷ cs) f g h = absurd h
+those_same W V C D (n ∷ ns) [] f g h = (f n h.0, those_same W V C D ns [] f g h.1)
+those_same W V C D (n ∷ ns) (c ∷ cs) f g h = elim h [
+  | inl w ↦ inl (f n w.0, those_same W V C D ns (c ∷ cs) f g w.1)
+  | inr w ↦ inr (g n c w.0, those_same W V C D ns cs f g w.1)
+]
+
+abbrev pub AreThoseOf : List Keyed → Tree → ℕ → List ℕ → List Crossed → Type 0
+AreThoseOf elements tree tail numbers crossed = AreThose (IsWholeOf elements tree tail) (IsCrossedOf elements tree tail) numbers crossed
+
+one_of : (elements : List Keyed) (tree : Tree) (tail n : ℕ) (found : Option Crossed) → IfNone found (IsWholeOf elements tree tail n) → IfSome found (IsCrossedOf elements tree tail n) →
+    AreThoseOf elements tree tail (n ∷ []) (option_to_list found)
+one_of elements tree tail n None whole crossed = (whole, tt)
+one_of elements tree tail n (Some one) whole crossed = inr (crossed, tt)
+
+pub those_more : (elements : List Keyed) (tree : Tree) (tail now : ℕ) (numbers : List ℕ) (at d : ℕ) (found : Option Crossed) (old new : List Crossed) → now ≡ tail → at < length numbers →
+    IfNone found (IsWholeOf elements tree now (get_or numbers at d)) → IfSome found (IsCrossedOf elements tree now (get_or numbers at d)) → new ≡ old ++ option_to_list found →
+    AreThoseOf elements tree tail (take at numbers) old → AreThoseOf elements tree tail (take (at + 1) numbers) new
+those_more elements tree tail now numbers at d found old new t l whole crossed e h =
+    let n : ℕ = get_or numbers at d in
+    let one : AreThoseOf elements tree tail (n ∷ []) (option_to_list found) = subst (λ k. AreThoseOf elements tree k (n ∷ []) (option_to_list found)) t (one_of elements tree now n found whole crossed) in
+    let both : AreThoseOf elements tree tail (take at numbers ++ n ∷ []) (old ++ option_to_list found) =
+    those_append (IsWholeOf elements tree tail) (IsCrossedOf elements tree tail) (take at numbers) (n ∷ []) old (option_to_list found) h one in
+    subst (λ (cs : List Crossed). AreThoseOf elements tree tail (take (at + 1) numbers) cs) (sym e)
+    (subst (λ (ns : List ℕ). AreThoseOf elements tree tail ns (old ++ option_to_list found)) (sym (take_more numbers at d l)) both)
+
+pub those_begin : (elements : List Keyed) (tree : Tree) (tail : ℕ) (numbers : List ℕ) (crossed : List Crossed) → crossed ≡ [] → AreThoseOf elements tree tail (take 0 numbers) crossed
+those_begin elements tree tail numbers crossed e = subst (λ (cs : List Crossed). AreThoseOf elements tree tail (take 0 numbers) cs) (sym e) tt
+
+pub those_all : (elements : List Keyed) (tree : Tree) (tail : ℕ) (numbers : List ℕ) (at : ℕ) (crossed : List Crossed) → length numbers ≤ at → AreThoseOf elements tree tail (take at numbers) crossed →
+    AreThoseOf elements tree tail numbers crossed
+those_all elements tree tail numbers at crossed l h = subst (λ (ns : List ℕ). AreThoseOf elements tree tail ns crossed) (take_all at numbers l) h
 
 pub all_crossed_of : (page : List ℕ) (tree : Tree) (tail now : ℕ) (numbers : List ℕ) (elements : List Keyed) (all : List Stretch) (found : List Crossed) → all ≡ stretches page → tail ≡ tail_begin page → now ≡ tail →
-    ((one : Keyed) → Contains elements one → Contains all (stretch_of_keyed one)) → All (IsOneCrossedIn elements tree now numbers) found →
-    All (λ (crossed : Crossed). IsOneCrossed page tree numbers crossed.place crossed.at) found
-all_crossed_of page tree tail now numbers elements all found e t n each h = λ k d l. crossed_of page tree now numbers elements all (get_or found k d) e (n ∙ t) each (h k d l)
+    ((one : Keyed) → Contains elements one → Contains all (stretch_of_keyed one)) → ((s : Stretch) → Contains all s → Contains elements (keyed_stretch s)) → AreThoseOf elements tree now numbers found →
+    AreCrossed page tree numbers found
+all_crossed_of page tree tail now numbers elements all found e t n each kept h =
+    those_same (IsWholeOf elements tree now) (IsWhole page tree) (IsCrossedOf elements tree now) (IsCrossedOne page tree) numbers found
+    (λ k w. whole_of page tree now k elements all e (n ∙ t) kept w) (λ k c w. crossed_one_of page tree now k elements all c e (n ∙ t) each w) h

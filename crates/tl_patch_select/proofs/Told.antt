@@ -2,7 +2,7 @@
 use Rattle.std.proofs.Common.{Bool, Err, List, None, Ok, Option, Result, Some, [], ap, arith, false, filter, get_or, if◌then◌else◌, inl, inr, length, not, refl, subst, suc, sym, true, true≢false, zero, ℕ, ◌+◌, ◌<◌, ◌==◌, ◌∙◌, ◌∷◌, ◌≡◌, ◌≤◌, ◌↔◌}
 use Rattle.std.proofs.lemmas.Bool.{cases_Bool, eq-eqb, eqb-true, ltb-false, ltb-true, ne_eqb}
 use Rattle.std.proofs.lemmas.List.{get_or_default}
-use Rattle.std.proofs.lemmas.List.Elements.{All-contains, All-filter, Contains-get_or, filter_agree}
+use Rattle.std.proofs.lemmas.List.Elements.{filter_agree}
 use Rattle.std.proofs.lemmas.List.Folds.{Any-from_list_any, list_any_at, list_any_none}
 use Rattle.std.proofs.lemmas.List.Kept.{AllPairs-from_increasing}
 use Rattle.std.proofs.lemmas.List.Sorted.{searched}
@@ -10,8 +10,11 @@ use Rattle.std.specs.List.{All, Contains, list_any}
 use Rattle.std.specs.List.Sorted.{IsBinarySearchResult, IsStrictlyIncreasing}
 use Rattle.std.specs.Ordering.{nat_cmp}
 use Rattle.std.specs.Result.{is_ok}
+use Rattle.tl_patch_edit.specs.declared.comments.CommentError.{CommentError}
+use Rattle.tl_patch_edit.specs.declared.comments.CommentError.TheVariants as comment
 use Rattle.tl_patch_select.specs.Partly.{IsRestRefused, IsRestRefusedFor, has_other_place, is_told, others}
 use Rattle.tl_patch_select.specs.Selected.{place_of}
+use Rattle.tl_patch_select.specs.Uncommented.{AreNodesKept, IsCommentReason}
 use Rattle.tl_patch_select.specs.declared.edit_error.SelectionEditError.{SelectionEditError}
 use Rattle.tl_patch_select.specs.declared.edit_error.SelectionEditError.TheVariants as element
 use Rattle.tl_patch_spec.specs.Patches.{Patch}
@@ -78,13 +81,13 @@ pub same_others : (tree : Tree) (one other : List ℕ) → ((place : ℕ) → Co
 same_others tree one other f g numbers =
     filter_agree (λ n. has_other_place one (place_of tree n)) (λ n. has_other_place other (place_of tree n)) (λ n. same_place one other (place_of tree n) f g) numbers
 
-pub others_among : (tree : Tree) (told numbers : List ℕ) (n : ℕ) → Contains (others tree told numbers) n → Contains numbers n
-others_among tree told numbers n k =
-    All-contains (λ m. Contains numbers m) (others tree told numbers) n
-    (All-filter (λ m. has_other_place told (place_of tree m)) (λ m. Contains numbers m) numbers (λ i d l. Contains-get_or numbers i d l)) k
-
 pub rest_refused : (patch : Patch) (tree : Tree) (page numbers : List ℕ) (e : SelectionEditError) → IsRestRefusedFor patch tree page numbers e → IsRestRefused patch tree page numbers e
 rest_refused patch tree page numbers (element.Refused error) h = h
 rest_refused patch tree page numbers (element.Untagged at) h = h
 rest_refused patch tree page numbers (element.NotWhole place at) h = h
 rest_refused patch tree page numbers element.OutOfMemory h = tt
+
+pub nodes_kept : (numbers : List ℕ) (tree : Tree) (page : List ℕ) (e : CommentError) → AreNodesKept numbers tree page e → IsCommentReason numbers tree page e
+nodes_kept numbers tree page (comment.NoComment place) h = h
+nodes_kept numbers tree page comment.ReadOtherwise h = h
+nodes_kept numbers tree page comment.OutOfMemory h = tt

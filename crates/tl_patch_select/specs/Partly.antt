@@ -1,17 +1,18 @@
 -- A page with those of some elements changed that can be.
-use Rattle.std.specs.List.{All, Contains, list_any}
+use Rattle.std.specs.List.{list_any}
 use Rattle.std.specs.Option.{option_to_list}
 use Rattle.std.specs.Prelude.{Bool, List, None, Option, Some, [], false, filter, flat_map, length, map, not, reverse, ℕ, ⊤, ◌-◌, ◌==◌, ◌≡◌}
-use Rattle.tl_patch_edit.specs.Errors.{IsRefused, LacksStartTag}
+use Rattle.tl_patch_edit.specs.Apart.{refused_apart, unstarted_in}
 use Rattle.tl_patch_edit.specs.declared.error.EditError.{EditError}
 use Rattle.tl_patch_edit.specs.declared.error.EditError.TheVariants as edit
 use Rattle.tl_patch_spec.specs.Patches.{Patch}
 use Rattle.tl_patch_spec.specs.Together.{at_each}
 use Rattle.tl_patch_select.specs.NodeEdits.{AreEditsReason}
 use Rattle.tl_patch_select.specs.Selected.{ArePlacesOf, first_place, place_of}
-use Rattle.tl_patch_select.specs.Whole.{IsOneCrossed}
+use Rattle.tl_patch_select.specs.Whole.{AreCrossed}
 use Rattle.tl_patch_select.specs.declared.edit_error.SelectionEditError.{SelectionEditError}
 use Rattle.tl_patch_select.specs.declared.edit_error.SelectionEditError.TheVariants as element
+use Rattle.tl_patch_select.specs.declared.partly.LeftOut.{LeftOut}
 use Rattle.tl_patch_select.specs.declared.whole.Crossed.{Crossed}
 use Rattle.tl_tree.specs.TreeView.{rows_in}
 use Rattle.tl_tree.specs.declared.tree.Tree.{Tree}
@@ -54,52 +55,53 @@ others tree told numbers = filter (λ n. has_other_place told (place_of tree n))
 abbrev pub patched_each : Patch → List ℕ → List (ℕ × Patch)
 patched_each patch numbers = map (λ n. (n, patch)) numbers
 
--- why this patch of these elements would be refused
+-- why this patch of these elements is refused, of each of which it is so by itself
 pub record AreRefusedOf (patch : Patch) (tree : Tree) (page numbers : List ℕ)
     (errors : List EditError) : Type 0 where
   pub places : List ℕ
   pub are_places : ArePlacesOf tree numbers places
-  pub refused : All (IsRefused page (at_each patch places)) errors
+  pub refused : errors ≡ refused_apart page (at_each patch places)
 
--- no start tag begins at these places of these elements, though one stands there in the tree
+-- these are the places of these elements at which no start tag begins, though one stands there in
+-- the tree
 pub record AreUnstartedOf (tree : Tree) (page numbers unstarted : List ℕ) : Type 0 where
   pub places : List ℕ
   pub are_places : ArePlacesOf tree numbers places
-  pub lack : All (LacksStartTag page places) unstarted
+  pub lack : unstarted ≡ unstarted_in page places
 
--- of some elements those are left whose tags can be changed; no start tag begins where those of
--- others do, by the tokenizer by itself
-pub record AreTagged (tree : Tree) (page numbers left : List ℕ) (crossed : List Crossed)
-    (refused : List EditError) : Type 0 where
+-- of some elements those are left whose tags can be changed: those with a start tag, but where no
+-- start tag begins by the tokenizer by itself
+pub record AreTagged (tree : Tree) (page numbers left : List ℕ) (out : LeftOut) : Type 0 where
   pub unstarted : List ℕ
   pub are_unstarted : AreUnstartedOf tree page numbers unstarted
   pub is_left : left ≡ others tree unstarted numbers
-  pub whole : crossed ≡ []
-  pub told : refused ≡ map edit.NoStartTag unstarted
+  pub whole : out.crossed.items ≡ []
+  pub told : out.refused.items ≡ map edit.NoStartTag unstarted
 
--- why some elements aren't changed
-pub record AreLeftOut (patch : Patch) (tree : Tree) (page numbers untagged : List ℕ)
-    (crossed : List Crossed) (refused : List EditError) : Type 0 where
+-- which of some elements aren't changed, and why
+pub record AreLeftOut (patch : Patch) (tree : Tree) (page numbers : List ℕ) (out : LeftOut)
+    : Type 0 where
   -- no tag stands for them
-  pub put_in : untagged ≡ put_in_places tree (length page) (reverse numbers)
+  pub put_in : out.untagged.items ≡ put_in_places tree (length page) (reverse numbers)
   -- they aren't whole
-  pub not_whole : All
-      (λ (c : Crossed). IsOneCrossed page tree (reverse numbers) c.place c.at) crossed
-  -- the patch of the others would be refused
-  pub errors :
-      AreRefusedOf patch tree page (others tree (crossed_places crossed) numbers) refused
+  pub not_whole : AreCrossed page tree (reverse numbers) out.crossed.items
+  -- the patch of the others is refused
+  pub errors : AreRefusedOf patch tree page
+      (others tree (crossed_places out.crossed.items) numbers)
+      out.refused.items
 
--- the elements that are left: those that have a start tag of which none of these errors speaks
-abbrev pub left_over : Tree → List ℕ → List Crossed → List EditError → List ℕ
-left_over tree numbers crossed refused =
-    others tree (refused_places refused) (others tree (crossed_places crossed) numbers)
+-- the elements that are left: those that have a start tag of which none of these reasons speaks
+abbrev pub left_over : Tree → List ℕ → LeftOut → List ℕ
+left_over tree numbers out =
+    others tree (refused_places out.refused.items)
+    (others tree (crossed_places out.crossed.items) numbers)
 
--- the patch of some of these elements is refused
+-- the patch of the elements that are left is refused
 pub record IsRestRefusedFor (patch : Patch) (tree : Tree) (page numbers : List ℕ)
     (error : SelectionEditError) : Type 0 where
-  pub left : List ℕ
-  pub among : (number : ℕ) → Contains left number → Contains numbers number
-  pub reason : AreEditsReason (patched_each patch left) tree page error
+  pub out : LeftOut
+  pub left_out : AreLeftOut patch tree page numbers out
+  pub reason : AreEditsReason (patched_each patch (left_over tree numbers out)) tree page error
 
 -- nothing is said of when memory runs out
 abbrev pub IsRestRefused : Patch → Tree → List ℕ → List ℕ → SelectionEditError → Type 0

@@ -1,11 +1,12 @@
 -- Whether an element of a tree is whole in the bytes of the page: what comes of the bytes that it
 -- has by its end tags stands in it, and nothing else does.
 use Rattle.std.specs.List.{Contains}
-use Rattle.std.specs.Prelude.{List, Option, Some, ℕ, ◌<◌, ◌≡◌, ◌≤◌, ◌⊎◌}
+use Rattle.std.specs.Prelude.{List, Option, Some, [], ℕ, ⊤, ◌<◌, ◌∷◌, ◌≡◌, ◌≤◌, ◌⊎◌}
 use Rattle.tl_css.specs.Selector.{Css}
 use Rattle.tl_patch_edit.specs.Stretches.{stretches, tail_begin}
 use Rattle.tl_patch_edit.specs.declared.reach.Stretch.{Stretch}
 use Rattle.tl_patch_select.specs.Selected.{place_of}
+use Rattle.tl_patch_select.specs.declared.whole.Crossed.{Crossed}
 use Rattle.tl_tree.specs.Asked.{end_or}
 use Rattle.tl_tree.specs.TreeView.{rows_in}
 use Rattle.tl_tree.specs.declared.tree.Tree.{Tree}
@@ -89,3 +90,20 @@ pub record IsNotWhole (e : Css) (tree : Tree) (page : List ℕ) (place at : ℕ)
   pub numbers : List ℕ
   pub found : AreFound (page_of tree) e numbers
   pub one : IsOneCrossed page tree numbers place at
+
+-- of some elements, in order, each is well, or what isn't is the next one of these
+abbrev pub AreThose : (ℕ → Type 0) → (ℕ → Crossed → Type 0) → List ℕ → List Crossed → Type 0
+AreThose IsWell IsIll [] [] = ⊤
+AreThose IsWell IsIll [] (one ∷ crossed) = ⊥
+AreThose IsWell IsIll (number ∷ numbers) [] = IsWell number × AreThose IsWell IsIll numbers []
+AreThose IsWell IsIll (number ∷ numbers) (one ∷ crossed) =
+    (IsWell number × AreThose IsWell IsIll numbers (one ∷ crossed))
+    ⊎ (IsIll number one × AreThose IsWell IsIll numbers crossed)
+
+abbrev pub IsCrossedOne : List ℕ → Tree → ℕ → Crossed → Type 0
+IsCrossedOne page tree number one = IsCrossed page tree number one.place one.at
+
+-- these are those of some elements that aren't whole, in the order of the elements: none is missed
+abbrev pub AreCrossed : List ℕ → Tree → List ℕ → List Crossed → Type 0
+AreCrossed page tree numbers crossed =
+    AreThose (IsWhole page tree) (IsCrossedOne page tree) numbers crossed

@@ -252,8 +252,8 @@ fn backwards(alloc: Global, numbers: &[usize]) -> Result<Vec<usize>, AllocError>
 
 /// The page with this patch of those of some elements of its tree that can be changed, and of no
 /// other byte; and why the others can't: no tag stands for them, they aren't whole, or the patch
-/// can't be meant for them. It is still refused where the rest is, as a text that may be read as
-/// markup. The numbers stand in order, else this isn't linear.
+/// can't be meant for them. It is still refused where that of the rest is, as of a text that may be
+/// read as markup. The numbers stand in order, else this isn't linear.
 pub fn edit_partly(
     alloc: Global,
     page: &[u8],
@@ -262,10 +262,9 @@ pub fn edit_partly(
     patch: ElementPatch<'_>,
 ) -> Result<PartlyPatched, SelectionEditError>
     ensures left_out { IfOk result (λ own. AreLeftOut (patch_view patch.entry) tree.now page.now
-        numbers.now own.left_out.untagged.items own.left_out.crossed.items
-        own.left_out.refused.items) }
-    ensures numbers { IfOk result (λ own. own.numbers.items ≡ left_over tree.now numbers.now
-        own.left_out.crossed.items own.left_out.refused.items) }
+        numbers.now own.left_out) }
+    ensures numbers { IfOk result (λ own.
+        own.numbers.items ≡ left_over tree.now numbers.now own.left_out) }
     ensures edited { IfOk result (λ own. AreNodesEdited
         (patched_each (patch_view patch.entry) own.numbers.items) tree.now page.now
         own.patched.bytes.items own.patched.places.items) }
@@ -335,8 +334,8 @@ pub fn tagged_nodes(
     tree: &Tree<'_>,
     numbers: &[usize],
 ) -> Result<LeftOver, AllocError>
-    ensures tagged { IfOk result (λ own. AreTagged tree.now page.now numbers.now own.numbers.items
-        own.left_out.crossed.items own.left_out.refused.items) }
+    ensures tagged { IfOk result (λ own.
+        AreTagged tree.now page.now numbers.now own.numbers.items own.left_out) }
     ensures untagged { IfOk result (λ own. own.left_out.untagged.items
         ≡ put_in_places tree.now (length page.now) (reverse numbers.now)) }
 {

@@ -1,6 +1,6 @@
 //! A page without comments of its tree.
-ghost use Rattle.std.specs.Prelude.{IfOk};
-ghost use Rattle.tl_patch_select.specs.Uncommented.{AreUncommented};
+ghost use Rattle.std.specs.Prelude.{IfErr, IfOk};
+ghost use Rattle.tl_patch_select.specs.Uncommented.{AreUncommented, IsCommentReason};
 
 use crate::patched::Patched;
 use crate::selected::places_in_order;
@@ -16,8 +16,9 @@ pub fn uncomment_nodes(
     tree: &Tree<'_>,
     numbers: &[usize],
 ) -> Result<Patched, CommentError>
-    ensures { IfOk result (λ p.
+    ensures uncommented { IfOk result (λ p.
         AreUncommented numbers.now tree.now page.now p.bytes.items p.places.items) }
+    ensures refused { IfErr result (IsCommentReason numbers.now tree.now page.now) }
 {
     let places = places_in_order(alloc, tree, numbers)?;
     let bytes = without_comments(alloc, page, places.as_slice())?;

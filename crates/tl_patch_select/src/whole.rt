@@ -5,7 +5,7 @@ ghost use Rattle.std.specs.Prelude.{IfNone, IfOk, IfSome, OnOk, false, map, true
 ghost use Rattle.tl_patch_edit.specs.declared.reach.Stretch.{Stretch};
 ghost use Rattle.tl_patch_select.specs.Inner.Ranges.{IsRising};
 ghost use Rattle.tl_patch_select.specs.Inner.Sources.{AreRows, AreRowsUpTo, AreSources, IsCrossedIn, IsCrossedOf, IsOneCrossedIn, IsWholeAt, IsWholeOf, keyed_stretch, stretch_of_keyed, turned};
-ghost use Rattle.tl_patch_select.specs.Whole.{ComesFrom, IsCrossedAt, IsOneCrossed, IsWhole, IsWholeIn, end_of};
+ghost use Rattle.tl_patch_select.specs.Whole.{AreCrossed, AreThose, ComesFrom, IsCrossedAt, IsOneCrossed, IsWhole, IsWholeIn, end_of};
 ghost use Rattle.tl_patch_select.specs.declared.ranges.Keyed.{Keyed};
 
 use crate::in_order::are_whole;
@@ -303,8 +303,8 @@ fn all_crossed(
 ) -> Result<Vec<Crossed>, AllocError>
     requires rising { IsRising elements.now }
     requires sources { AreSources tree.now sources.old }
-    ensures { IfOk result (λ all.
-        All (IsOneCrossedIn elements.now tree.now sources.old.tail numbers.now) all.items) }
+    ensures { IfOk result (λ all. AreThose (IsWholeOf elements.now tree.now sources.old.tail)
+        (IsCrossedOf elements.now tree.now sources.old.tail) numbers.now all.items) }
 {
     let mut all = Vec::new(alloc);
     for number in numbers {
@@ -322,9 +322,7 @@ pub(crate) fn find_all_crossed(
     tree: &Tree<'_>,
     numbers: &[usize],
 ) -> Result<Vec<Crossed>, AllocError>
-    ensures { IfOk result (λ all. All
-        (λ crossed. IsOneCrossed page.now tree.now numbers.now crossed.place crossed.at)
-        all.items) }
+    ensures { IfOk result (λ all. AreCrossed page.now tree.now numbers.now all.items) }
 {
     let found = stretches(alloc, page)?;
     let elements = in_order(alloc, found.elements.as_slice())?;

@@ -1,16 +1,10 @@
--- Which patches are refused, each by itself.
-use Rattle.std.specs.Prelude.{List, None, Some, ℕ, ⊤, ◌<◌, ◌≡◌, ◌≤◌, ◌⊎◌}
+-- Where start tags are sought.
 use Rattle.std.specs.List.{slice_get}
+use Rattle.std.specs.Prelude.{List, Some, ℕ, ◌<◌, ◌≡◌, ◌≤◌, ◌⊎◌}
 use Rattle.tl_html_tokens.specs.declared.stage.TokenKind.TheVariants as kind
 use Rattle.tl_html_tokens.specs.declared.token.Token.{Token}
-use Rattle.tl_patch_spec.specs.Patches.{asked_of}
-use Rattle.tl_patch_edit.specs.Errors.{pieces_in}
-use Rattle.tl_patch_edit.specs.Found.{IsStartAt}
-use Rattle.tl_patch_edit.specs.View.{patch_view}
-use Rattle.tl_patch_edit.specs.declared.ask.PlacedPatch.{PlacedPatch}
+use Rattle.tl_patch_edit.specs.Found.{IsStartOf}
 use Rattle.tl_patch_edit.specs.declared.ask.Start.{Start}
-use Rattle.tl_patch_edit.specs.declared.error.EditError.{EditError}
-use Rattle.tl_patch_edit.specs.declared.error.EditError.TheVariants as error
 
 -- a token is the start tag at a place, or begins behind it
 abbrev pub IsReached : Token → ℕ → Type 0
@@ -33,18 +27,10 @@ abbrev pub NoStartThere : List Token → ℕ → ℕ → Type 0
 NoStartThere tokens place number = (t : Token) → slice_get tokens number ≡ Some t →
     t.start ≡ place → t.kind ≡ kind.StartTag → ⊥
 
--- a patch can't be meant for the element whose start tag begins at its place
-pub record IsUnmeantAt (page : List ℕ) (tokens : List Token) (one : PlacedPatch) (place : ℕ) :
-    Type 0 where
-  pub start : Start
-  pub is : IsStartAt tokens one.place start.number start.token
-  pub begins : place ≡ start.token.start
-  pub none : asked_of (pieces_in page) start.number (patch_view one.patch) ≡ None
+-- a start tag of a page begins at a place
+pub record IsStartOfPage (page : List ℕ) (place : ℕ) (start : Start) : Type 0 where
+  pub stands : IsStartOf page start.number start.token
+  pub begins : start.token.start ≡ place
 
--- why a patch is refused, whose start tag can only be the token of a number
-abbrev pub IsRefusedApart : List ℕ → List Token → ℕ → PlacedPatch → EditError → Type 0
-IsRefusedApart page tokens number one (error.NoStartTag p) =
-    (p ≡ one.place) × NoStartThere tokens one.place number
-IsRefusedApart page tokens number one (error.NotMeant p) = IsUnmeantAt page tokens one p
-IsRefusedApart page tokens number one error.OutOfMemory = ⊤
-IsRefusedApart page tokens number one _ = ⊥
+abbrev pub start_number : Start → ℕ
+start_number start = start.number

@@ -1,4 +1,4 @@
-use Rattle.tl_patch_edit.proofs.Gone.{comment_is}
+use Rattle.tl_patch_edit.proofs.Gone.{comment_is, no_comment_all, no_comment_more, no_comment_yet}
 use Rattle.tl_patch_edit.proofs.comments.comment_from.Goals as goal
 
 pub returns-then-is_it-clause-comment : goal.returns-then-is_it-clause-comment

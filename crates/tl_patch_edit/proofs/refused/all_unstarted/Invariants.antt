@@ -1,12 +1,10 @@
-use Rattle.std.proofs.Common.{take}
-use Rattle.std.specs.List.{All}
-use Rattle.tl_patch_edit.specs.Errors.{LacksStartTag}
-use Rattle.tl_patch_edit.proofs.Apart.{AreBehind}
+use Rattle.std.proofs.Common.{length, ◌≤◌}
+use Rattle.tl_patch_edit.proofs.Apart.{AreUnstartedSoFar}
 use Rattle.tl_patch_edit.proofs.refused.all_unstarted.Given as goal
 
--- none begins at those so far; no start tag that is passed begins at a place behind
+-- those so far, before those of the places that are left, are all
 abbrev pub invariant-loop-at : goal.invariant-loop-at
 invariant-loop-at l = record {
-  lack : All (LacksStartTag l.page l.places) l.unstarted.items;
-  behind : AreBehind l.tokens (take l.at l.places) l.from;
+  within : l.from ≤ length l.tokens;
+  so_far : AreUnstartedSoFar l.page l.tokens l.places l.at l.from l.unstarted.items;
 }

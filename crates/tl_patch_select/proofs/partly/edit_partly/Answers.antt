@@ -1,10 +1,10 @@
 use Rattle.std.proofs.Common.{rules, Err, List, ap, ap₂, length, map, reverse, subst, ℕ, ◌∙◌, ◌≡◌}
-use Rattle.std.specs.List.{All, Contains}
 use Rattle.tl_patch_edit.specs.View.{patch_view}
-use Rattle.tl_patch_select.proofs.Told.{others_among, rest_refused}
+use Rattle.tl_patch_select.proofs.Told.{rest_refused}
 use Rattle.tl_patch_select.specs.NodeEdits.{AreEditsReason, AreNodesEdited, edit_of}
 use Rattle.tl_patch_select.specs.Partly.{AreRefusedOf, crossed_places, others, patched_each, put_in_places, refused_places}
-use Rattle.tl_patch_select.specs.Whole.{IsOneCrossed}
+use Rattle.tl_patch_select.specs.Whole.{AreCrossed}
+use Rattle.tl_patch_select.specs.declared.partly.LeftOut.{LeftOut}
 use Rattle.tl_patch_select.specs.declared.whole.Crossed.{Crossed}
 use Rattle.tl_patch_spec.specs.Patches.{Patch}
 use Rattle.tl_patch_select.proofs.partly.edit_partly.Goals as goal
@@ -19,7 +19,7 @@ returns-clause-left_out c =
     c.in_ok-whole.ensures ∙ ap (λ (ts : List ℕ). others tree ts numbers) (c.as_slice-4.ensures.value ∙ c.in_ok-told.ensures ∙ ap crossed_places c.as_slice-3.ensures.value) in
     record {
       put_in = c.in_ok-untagged.ensures ∙ ap (put_in_places tree (length page)) (c.as_slice.ensures.value ∙ c.in_ok-back.ensures);
-      not_whole = subst (λ (ns : List ℕ). All (λ (x : Crossed). IsOneCrossed page tree ns x.place x.at) crossed) (c.as_slice-2.ensures.value ∙ c.in_ok-back.ensures) c.in_ok-crossed.ensures;
+      not_whole = subst (λ (ns : List ℕ). AreCrossed page tree ns crossed) (c.as_slice-2.ensures.value ∙ c.in_ok-back.ensures) c.in_ok-crossed.ensures;
       errors = subst (λ (ns : List ℕ). AreRefusedOf (patch_view c.args.patch) tree page ns c.in_ok-refused.refused.items) (c.as_slice-5.ensures.value ∙ whole) c.in_ok-refused.ensures;
     }
 
@@ -44,15 +44,24 @@ pub returns-in_err-patched-clause-refused : goal.returns-in_err-patched-clause-r
 returns-in_err-patched-clause-refused c =
     let tree = c.args.tree.now in
     let page : List ℕ = c.args.page.now in
+    let numbers : List ℕ = c.args.numbers.now in
     let patch : Patch = patch_view c.args.patch in
-    let left : List ℕ = c.in_ok-numbers.numbers.items in
+    let crossed : List Crossed = c.in_ok-crossed.crossed.items in
     let why = c.in_err-patched.field-0.0 in
     let is : c.from_residual-in_err-patched.result ≡ Err why = search rules in
-    let reason : AreEditsReason (patched_each patch left) tree page why =
-    subst (λ (edits : List (ℕ × Patch)). AreEditsReason edits tree page why)
-    (ap (map edit_of) c.as_slice-10.ensures.value ∙ (c.in_ok-edits.ensures ∙ ap (patched_each patch) c.as_slice-9.ensures.value)) c.in_err-patched.ensures.refused in
-    rw is (rest_refused patch tree page c.args.numbers.now why (record {
-      left = left;
-      among = λ n k. others_among tree _ c.args.numbers.now n (subst (λ (ns : List ℕ). Contains ns n) (c.as_slice-8.ensures.value ∙ c.in_ok-whole.ensures) (others_among tree _ _ n (subst (λ (ns : List ℕ). Contains ns n) c.in_ok-numbers.ensures k)));
-      reason = reason;
+    let whole : c.in_ok-whole.whole.items ≡ others tree (crossed_places crossed) numbers =
+    c.in_ok-whole.ensures ∙ ap (λ (ts : List ℕ). others tree ts numbers) (c.as_slice-4.ensures.value ∙ c.in_ok-told.ensures ∙ ap crossed_places c.as_slice-3.ensures.value) in
+    let left : c.in_ok-numbers.numbers.items ≡ others tree (refused_places c.in_ok-refused.refused.items) (others tree (crossed_places crossed) numbers) =
+    c.in_ok-numbers.ensures
+    ∙ ap₂ (λ (ts ns : List ℕ). others tree ts ns) (c.as_slice-7.ensures.value ∙ c.in_ok-told-2.ensures ∙ ap refused_places c.as_slice-6.ensures.value) (c.as_slice-8.ensures.value ∙ whole) in
+    let out : LeftOut = record { untagged = c.in_ok-untagged.untagged; crossed = c.in_ok-crossed.crossed; refused = c.in_ok-refused.refused } in
+    rw is (rest_refused patch tree page numbers why (record {
+      out = out;
+      left_out = record {
+        put_in = c.in_ok-untagged.ensures ∙ ap (put_in_places tree (length page)) (c.as_slice.ensures.value ∙ c.in_ok-back.ensures);
+        not_whole = subst (λ (ns : List ℕ). AreCrossed page tree ns crossed) (c.as_slice-2.ensures.value ∙ c.in_ok-back.ensures) c.in_ok-crossed.ensures;
+        errors = subst (λ (ns : List ℕ). AreRefusedOf patch tree page ns c.in_ok-refused.refused.items) (c.as_slice-5.ensures.value ∙ whole) c.in_ok-refused.ensures;
+      };
+      reason = subst (λ (edits : List (ℕ × Patch)). AreEditsReason edits tree page why)
+          (ap (map edit_of) c.as_slice-10.ensures.value ∙ (c.in_ok-edits.ensures ∙ ap (patched_each patch) (c.as_slice-9.ensures.value ∙ left))) c.in_err-patched.ensures.refused;
     }))

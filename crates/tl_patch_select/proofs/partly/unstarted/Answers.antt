@@ -1,13 +1,10 @@
-use Rattle.std.proofs.Common.{List, subst, ℕ}
-use Rattle.std.specs.List.{All}
-use Rattle.tl_patch_edit.specs.Errors.{LacksStartTag}
+use Rattle.std.proofs.Common.{ap, ◌∙◌}
+use Rattle.tl_patch_edit.specs.Apart.{unstarted_in}
 use Rattle.tl_patch_select.proofs.partly.unstarted.Goals as goal
 
 pub returns : goal.returns
-returns c =
-    let found = c.in_ok-unstarted.unstarted.items in
-    record {
-      places = c.in_ok-places.places.items;
-      are_places = c.in_ok-places.ensures;
-      lack = subst (λ (ps : List ℕ). All (LacksStartTag c.args.page.now ps) found) c.as_slice.ensures.value c.in_ok-unstarted.ensures;
-    }
+returns c = record {
+  places = c.in_ok-places.places.items;
+  are_places = c.in_ok-places.ensures;
+  lack = c.in_ok-unstarted.ensures.exact ∙ ap (unstarted_in c.args.page.now) c.as_slice.ensures.value;
+}
