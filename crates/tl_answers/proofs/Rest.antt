@@ -1,8 +1,8 @@
 -- Why a change isn't made of the elements that are left.
-use Rattle.std.proofs.Common.{List, [], refl, ◌∙◌, ◌≡◌, ℕ}
+use Rattle.std.proofs.Common.{List, ℕ}
 use Rattle.tl_answers.specs.Edits.{refusal_of_read}
 use Rattle.tl_answers.specs.Pages.{IsUnread}
-use Rattle.tl_answers.specs.Partly.{AreTaggedAll, AreTaggedBut, IsChangesRefusal, IsElementRestRefusal, IsRestUndone, IsRestUndoneOfTree, IsTagRestRefusal, IsTagRestRefused, IsUndonePartly}
+use Rattle.tl_answers.specs.Partly.{IsRestUndone, IsRestUndoneOfTree, IsTagRestRefusal, IsTagRestRefused, IsUndonePartly}
 use Rattle.tl_answers.specs.Uncommented.{AreKept, IsUncommentRefusal, comments_meant, refusal_of_comment, refusal_of_reading}
 use Rattle.tl_answers.specs.declared.edit.Edit.{Edit}
 use Rattle.tl_answers.specs.declared.edit.Edit.TheVariants as edit
@@ -14,7 +14,6 @@ use Rattle.tl_css.specs.Selector.{Css}
 use Rattle.tl_patch_edit.specs.declared.comments.CommentError.{CommentError}
 use Rattle.tl_patch_edit.specs.declared.comments.CommentError.TheVariants as comment
 use Rattle.tl_patch_select.specs.Nodes.{ChangeOf}
-use Rattle.tl_patch_select.specs.declared.partly.PartlyPatched.{PartlyPatched}
 use Rattle.tl_patch_select.specs.Uncommented.{IsCommentReason}
 use Rattle.tl_tree.specs.Pages.{IsOfPage}
 use Rattle.tl_tree.specs.TreeView.{rows_in}
@@ -29,24 +28,6 @@ tag_rest changes tree page numbers (refusal.Tag error) h = h
 tag_rest changes tree page numbers (refusal.Element error) h = h
 tag_rest changes tree page numbers (refusal.Unread error) h = h
 tag_rest changes tree page numbers refusal.OutOfMemory h = tt
-
--- the same without those that are put in
-pub but_put_in : (tree : Tree) (page numbers : List ℕ) (own new : PartlyPatched) → new.numbers ≡ own.numbers → new.left_out.crossed ≡ own.left_out.crossed → new.left_out.refused ≡ own.left_out.refused →
-    new.left_out.untagged.items ≡ [] → AreTaggedAll tree page numbers own.numbers.items own.left_out → AreTaggedBut tree page numbers new.numbers.items new.left_out
-but_put_in tree page numbers own new n c r u h =
-    let left : new.numbers.items ≡ own.numbers.items = rw n refl in
-    let crossed : new.left_out.crossed.items ≡ own.left_out.crossed.items = rw c refl in
-    let refused : new.left_out.refused.items ≡ own.left_out.refused.items = rw r refl in
-    record {
-      put_in = u;
-      tagged = record {
-        unstarted = (h.tagged).unstarted;
-        are_unstarted = (h.tagged).are_unstarted;
-        is_left = left ∙ (h.tagged).is_left;
-        whole = crossed ∙ (h.tagged).whole;
-        told = refused ∙ (h.tagged).told;
-      };
-    }
 
 not_unread : (own : Edit) (tree : Tree) (page numbers : List ℕ) (error : ReadError) → IsRestUndone own tree page numbers (refusal.Unread error) → ⊥
 not_unread (edit.Set key value) tree page numbers error h = h.reason
