@@ -1,2 +1,0 @@
-use Rattle.tl_answers.proofs.Rest.{but_put_in}
-use Rattle.tl_answers.proofs.edit.Edit.partly.Goals as goal
