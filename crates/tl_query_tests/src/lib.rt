@@ -13,8 +13,6 @@ mod errors;
 #[cfg(test)]
 mod pages;
 #[cfg(test)]
-mod partly;
-#[cfg(test)]
 mod paths;
 #[cfg(test)]
 mod policies;
