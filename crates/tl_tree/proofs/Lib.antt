@@ -48,7 +48,6 @@ pub mod Skips
 pub mod Turning
 pub mod Standing
 pub mod AlikeTags
-pub mod Looks
 pub mod Looped
 pub mod OnErrors
 pub mod GroupTable

@@ -1,5 +1,5 @@
 -- How many of the active formatting elements are counted, and what is known where few are.
-use Rattle.std.proofs.Common.{ap, arith, inl, inr, sym, subst, ◌∙◌, ◌≡◌, ◌+◌, ◌-◌, ◌%◌, ◌≤◌, ◌<◌, ◌++◌, ◌==◌, ◌∷◌, ◌&&◌, [], Bool, IsTrue, List, None, Some, cond, drop, false, get_or, length, nat_eq, nat_le, nat_lt, refl, set, suc, take, true, zero, ℕ}
+use Rattle.std.proofs.Common.{ap, arith, inl, inr, sym, subst, ◌∙◌, ◌≡◌, ◌+◌, ◌-◌, ◌%◌, ◌≤◌, ◌<◌, ◌++◌, ◌==◌, ◌∷◌, ◌&&◌, ◌||◌, [], Bool, IsTrue, List, None, Some, Option, cond, drop, false, get_or, length, map, nat_eq, nat_le, nat_lt, refl, reverse, set, suc, take, true, zero, ℕ}
 use Rattle.std.proofs.Math.Seq.{take-suc}
 use Rattle.std.proofs.lemmas.Bool.{and_from, and_parts, cond-false, eq-eqb, eqb-true, false≢true, le-ltb, leb-true, lt-ltb}
 use Rattle.std.proofs.lemmas.Bool.Decides.{eqb_tells}
@@ -9,21 +9,21 @@ use Rattle.std.specs.List.{insert, list_all, list_any, remove}
 use Rattle.std.specs.Str.{bytes_eq}
 use Rattle.tl_dom_spec.proofs.PartTests.{same_name}
 use Rattle.tl_dom_spec.specs.Builder as dom
-use Rattle.tl_dom_spec.specs.Formatting.{alike_count, is_alike, is_same_attribute, listed, with_room, without_earliest}
+use Rattle.tl_dom_spec.specs.Formatting.{Listed, alike_count, is_alike, is_same_attribute, listed, with_room, without_earliest}
 use Rattle.tl_dom_spec.specs.Tags.{Attribute, Tag}
 use Rattle.tl_tree.proofs.Actives.{entry-at, parted, seen-front, seen-none, set-parted}
 use Rattle.tl_tree.proofs.Grown.{tag-at-grown}
 use Rattle.tl_tree.proofs.Listed.{all-drop, all-take}
 use Rattle.tl_tree.proofs.Skips.{read-number}
-use Rattle.tl_tree.specs.Inner.Active.{entry_of, seen}
+use Rattle.tl_tree.specs.Inner.Active.{active_of, entry_of, seen}
 use Rattle.tl_tree.specs.Inner.ActiveWithin.{entry_is_within}
-use Rattle.tl_tree.proofs.Looks.{look-same}
-use Rattle.tl_tree.specs.Inner.Looks.{are_different, key_of, look_by, look_of, read_on}
-use Rattle.tl_tree.specs.Inner.Store.{Grows, is_tag_number, tag_at}
-use Rattle.tl_tree.specs.Inner.Tallied.{AreTallied, IsTallied, counted, has_key, is_in, is_known, is_tagged}
+use Rattle.tl_tree.specs.Inner.Looks.{key_of, look_by, look_of, read_on}
+use Rattle.tl_tree.specs.Inner.Store.{Grows, attribute_of, bytes_of, is_tag_number, tag_at}
+use Rattle.tl_tree.specs.Inner.Tallied.{AreBothTallied, AreTallied, IsTallied, counted, has_key, is_in, is_known, is_tagged}
 use Rattle.tl_tree.specs.declared.active.ActiveList.{ActiveList}
 use Rattle.tl_tree.specs.declared.active_entry.Entry.{Entry}
 use Rattle.tl_tree.specs.declared.active_entry.Entry.TheVariants.{Formatting, Marker}
+use Rattle.tl_tree.specs.declared.entries.AttributeEntry.{AttributeEntry}
 use Rattle.tl_tree.specs.declared.look.Key.{Key}
 use Rattle.tl_tree.specs.declared.look.Key.TheVariants.{Look, Name}
 use Rattle.tl_tree.specs.declared.store.Store.{Store}
@@ -218,15 +218,33 @@ entries-known s number tag h (Formatting n own ∷ xs) all =
 
 -- Elements that are alike
 
-pub alike-look : (a b : Tag) → are_different a.attributes ≡ true → is_alike a b ≡ true → look_of b ≡ look_of a
+look-same : (name : ℕ) (xs ys : List Attribute) → length xs ≡ length ys → list_all (λ (x : Attribute). list_any (is_same_attribute x) ys) xs ≡ true → look_by name ys ≡ look_by name xs
+look-same name [] [] h all = refl
+look-same name [] (y ∷ ys) h all = absurd (omega (arith, h))
+look-same name (x ∷ xs) [] h all = absurd (omega (arith, h))
+look-same name (x ∷ []) (y ∷ z ∷ ys) h all = absurd (omega (arith, h))
+look-same name (x ∷ z ∷ xs) (y ∷ []) h all = absurd (omega (arith, h))
+look-same name (x ∷ z ∷ xs) (y ∷ w ∷ ys) h all = refl
+look-same name (x ∷ []) (y ∷ []) h all =
+    let one = (and_parts (is_same_attribute x y || false) true all).0 in
+    let own = one-of (is_same_attribute x y) one in
+    let p = and_parts (bytes_eq x.key y.key) (bytes_eq x.value y.value) own in
+    ap (λ (k : List ℕ). read_on (read_on name k) y.value) (sym (same_name x.key y.key p.0))
+    ∙ ap (λ (v : List ℕ). read_on (read_on name x.key) v) (sym (same_name x.value y.value p.1))
+  where
+    one-of : (b : Bool) → (b || false) ≡ true → b ≡ true
+    one-of true h = refl
+    one-of false h = h
+
+pub alike-look : (a b : Tag) → is_alike a b ≡ true → look_of b ≡ look_of a
 unfolding look_of
-alike-look a b d h =
+alike-look a b h =
     let all = list_all (λ (x : Attribute). list_any (is_same_attribute x) b.attributes) a.attributes in
     let long = nat_eq (length a.attributes) (length b.attributes) in
     let p = and_parts (bytes_eq a.name b.name && long) all h in
     let q = and_parts (bytes_eq a.name b.name) long p.0 in
     ap (λ (n : List ℕ). look_by (read_on 0 n) b.attributes) (sym (same_name a.name b.name q.0))
-    ∙ look-same (read_on 0 a.name) a.attributes b.attributes d (eqb-true (length a.attributes) (length b.attributes) q.1) p.1
+    ∙ look-same (read_on 0 a.name) a.attributes b.attributes (eqb-true (length a.attributes) (length b.attributes) q.1) p.1
 
 abbrev likes : Tag → dom.Entry → Bool
 likes own dom.marker = false
@@ -238,16 +256,16 @@ alike-counted own (dom.marker ∷ ds) = omega arith
 alike-counted own (dom.formatting k tag ∷ ds) =
     raised (is_alike own tag) (is_alike own tag) (alike_count own ds) (counted (likes own) ds) (λ h. h) (alike-counted own ds)
 
-like-look : (s : Store) (own : Tag) → are_different own.attributes ≡ true → (e : Entry) → likes own (entry_of s e) ≡ true → has_key s Look (look_of own) e ≡ true
-like-look s own d Marker h = h
-like-look s own d (Formatting n tag) h = eq-eqb (look_of (tag_at s tag)) (look_of own) (alike-look own (tag_at s tag) d h)
+like-look : (s : Store) (own : Tag) (e : Entry) → likes own (entry_of s e) ≡ true → has_key s Look (look_of own) e ≡ true
+like-look s own Marker h = h
+like-look s own (Formatting n tag) h = eq-eqb (look_of (tag_at s tag)) (look_of own) (alike-look own (tag_at s tag) h)
 
 -- no more than have the number
-pub alike-few : (s : Store) (own : Tag) (xs : List Entry) → are_different own.attributes ≡ true → alike_count own (seen s xs) ≤ counted (has_key s Look (look_of own)) xs
-alike-few s own xs d =
+pub alike-few : (s : Store) (own : Tag) (xs : List Entry) → alike_count own (seen s xs) ≤ counted (has_key s Look (look_of own)) xs
+alike-few s own xs =
     let few = alike-counted own (seen s xs) in
     let same = seen-counted s (likes own) xs in
-    let more = counted-weaker (λ (e : Entry). likes own (entry_of s e)) (has_key s Look (look_of own)) (like-look s own d) xs in
+    let more = counted-weaker (λ (e : Entry). likes own (entry_of s e)) (has_key s Look (look_of own)) (like-look s own) xs in
     omega arith
 
 -- Elements of a name
@@ -281,6 +299,18 @@ none-named s name xs h =
     let same = seen-counted s (named name) xs in
     let few = counted-weaker (λ (e : Entry). named name (entry_of s e)) (has_key s Name (read_on 0 name)) (name-key s name) xs in
     unlisted-name name (seen s xs) (omega arith)
+
+-- What an element looks like
+
+pub look-other : (name : ℕ) (xs : List Attribute) → (length xs ≡ 1 → ⊥) → look_by name xs ≡ name
+look-other name [] h = refl
+look-other name (x ∷ []) h = absurd (h refl)
+look-other name (x ∷ y ∷ xs) h = refl
+
+pub look-one : (s : Store) (name : ℕ) (xs : List AttributeEntry) (d : AttributeEntry) → length xs ≡ 1 → look_by name (map (attribute_of s) xs) ≡ read_on (read_on name (bytes_of s (get_or xs 0 d).key)) (bytes_of s (get_or xs 0 d).value)
+look-one s name [] d h = absurd (omega (arith, h))
+look-one s name (x ∷ []) d h = refl
+look-one s name (x ∷ y ∷ xs) d h = absurd (omega (arith, h))
 
 pub tallied-to_marked : (s : Store) (key : Key) (counts : List ℕ) (xs : List Entry) → AreTallied s key counts xs → AreTallied s key counts (Marker ∷ xs)
 tallied-to_marked s key counts xs t = t

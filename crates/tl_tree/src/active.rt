@@ -9,7 +9,7 @@ ghost use Rattle.std.specs.Prelude.{IsTrue};
 ghost use Rattle.tl_tree.specs.Inner.ActiveWithin.{are_distinct, entry_is_within};
 
 use crate::active_entry::{Alike, Entry, Listed};
-use crate::alike::{has_few_different, is_alike, is_named};
+use crate::alike::{is_alike, is_named};
 use crate::error::GrowError;
 use crate::look::{Key, key_of, read_on};
 use crate::path::FramePath;
@@ -334,9 +334,6 @@ impl ActiveList {
             → alike_count (tag_at store.now own) (active_of store.now self.now) ≤ 2 }
     {
         if !self.looks.has_counts() {
-            return false;
-        }
-        if !has_few_different(store, own) {
             return false;
         }
         self.looks.most(key_of(store, Key::Look, own)) < 3

@@ -4,7 +4,6 @@ ghost use Rattle.std.specs.Prelude.{IsTrue, length, map, nat_eq, take, true, ◌
 ghost use Rattle.std.specs.Str.{bytes_eq};
 ghost use Rattle.tl_dom_spec.specs.Formatting.{is_alike, is_same_attribute};
 ghost use Rattle.tl_dom_spec.specs.Tags as dom;
-ghost use Rattle.tl_tree.specs.Inner.Looks.{are_different};
 ghost use Rattle.tl_tree.specs.Inner.Store.{attribute_of, bytes_of, entries_of, is_attribute, is_tag, is_tag_number, tag_at};
 
 use crate::entries::{AttributeEntry, TagEntry};
@@ -14,9 +13,6 @@ use std::collections::BTreeMap;
 
 // So many attributes are looked for one by one.
 const FEW: usize = 16;
-
-// Of so many attributes it is looked whether one stands there twice.
-const MANY: usize = 64;
 
 /// The attributes of a tag.
 pub(crate) fn attributes<'s>(store: &'s Store<'_>, tag: TagEntry) -> &'s [AttributeEntry]
@@ -38,22 +34,6 @@ fn is_same_attribute(store: &Store<'_>, one: AttributeEntry, other: AttributeEnt
         && store.bytes(one.value) == store.bytes(other.value)
 }
 
-// Whether one of some attributes is like this one.
-fn is_among(store: &Store<'_>, own: AttributeEntry, others: &[AttributeEntry]) -> bool
-    requires own { IsTrue (is_attribute store.now own) }
-    requires others { IsTrue (list_all (is_attribute store.now) others.now) }
-    ensures { result ≡ list_any
-        (is_same_attribute (attribute_of store.now own))
-        (map (attribute_of store.now) others.now) }
-{
-    for attribute in others {
-        if is_same_attribute(store, own, *attribute) {
-            return true;
-        }
-    }
-    false
-}
-
 // Whether a tag has an attribute like this one.
 fn has_attribute(store: &Store<'_>, own: AttributeEntry, other: TagEntry) -> bool
     requires own { IsTrue (is_attribute store.now own) }
@@ -63,31 +43,12 @@ fn has_attribute(store: &Store<'_>, own: AttributeEntry, other: TagEntry) -> boo
         (is_same_attribute (attribute_of store.now own))
         (map (attribute_of store.now) (entries_of store.now other)) }
 {
-    is_among(store, own, attributes(store, other))
-}
-
-// Whether no attribute of a tag stands there twice.
-fn are_different(store: &Store<'_>, tag: TagEntry) -> bool
-    requires { IsTrue (is_tag store.now tag) }
-    ensures { result ≡ are_different (map (attribute_of store.now) (entries_of store.now tag)) }
-{
-    let all = attributes(store, tag);
-    for place in 0..all.len() {
-        if is_among(store, all[place], &all[place + 1..]) {
-            return false;
+    for attribute in attributes(store, other) {
+        if is_same_attribute(store, own, *attribute) {
+            return true;
         }
     }
-    true
-}
-
-/// Whether it is known that no attribute of an element stands there twice. Of many it isn't asked,
-/// which would take time with the square of their number.
-pub(crate) fn has_few_different(store: &Store<'_>, own: u32) -> bool
-    requires { IsTrue (is_tag_number store.now own) }
-    ensures { result ≡ true → are_different (tag_at store.now own).attributes ≡ true }
-{
-    let tag = store.tag(own);
-    attributes(store, tag).len() <= MANY && are_different(store, tag)
+    false
 }
 
 // A key has a place.

@@ -1,11 +1,11 @@
 //! A number that elements share which the Noah's Ark clause takes for the same, and one of their
 //! name.
 ghost use Rattle.std.specs.Prelude.{IsTrue, ◌≡◌};
-ghost use Rattle.tl_tree.specs.Inner.Looks.{attribute_look, key_of, look_of, read_on};
-ghost use Rattle.tl_tree.specs.Inner.Store.{attribute_of, is_attribute, is_tag, is_tag_number, tag_at, tag_of};
+ghost use Rattle.tl_tree.specs.Inner.Looks.{key_of, look_of, read_on};
+ghost use Rattle.tl_tree.specs.Inner.Store.{is_tag, is_tag_number, tag_at, tag_of};
 
 use crate::alike::attributes;
-use crate::entries::{AttributeEntry, TagEntry};
+use crate::entries::TagEntry;
 use crate::store::Store;
 
 /// By which number elements are counted.
@@ -26,25 +26,18 @@ pub(crate) fn read_on(so_far: u32, bytes: &[u8]) -> u32
     number
 }
 
-fn attribute_look(store: &Store<'_>, attribute: AttributeEntry) -> u32
-    requires { IsTrue (is_attribute store.now attribute) }
-    ensures { result ≡ attribute_look (attribute_of store.now attribute) }
-{
-    let key = read_on(0, store.bytes(attribute.key));
-    let number = read_on(key, store.bytes(attribute.value));
-    number.wrapping_mul(number)
-}
-
-// The name counts, and each attribute, in whatever order they come.
+// The name counts, and the attribute where there is one alone.
 fn look_of(store: &Store<'_>, tag: TagEntry) -> u32
     requires { IsTrue (is_tag store.now tag) }
     ensures { result ≡ look_of (tag_of store.now tag) }
 {
-    let mut look = read_on(0, store.bytes(tag.name));
-    for attribute in attributes(store, tag) {
-        look = look.wrapping_add(attribute_look(store, *attribute));
+    let name = read_on(0, store.bytes(tag.name));
+    let attributes = attributes(store, tag);
+    if attributes.len() != 1 {
+        return name;
     }
-    look
+    let own = attributes[0];
+    read_on(read_on(name, store.bytes(own.key)), store.bytes(own.value))
 }
 
 /// The number of the element of a tag.

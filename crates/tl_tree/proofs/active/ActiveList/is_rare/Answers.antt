@@ -13,5 +13,5 @@ returns c = λ yes.
     let few = c.most.ensures s Look xs c.requires.tallied.looks in
     let same = ap (λ n. counted (has_key s Look n) xs) c.key_of.ensures in
     let least = ltb-true c.most.result 3 yes in
-    let all = alike-few s (tag_at s c.args.own) xs (c.has_few_different.ensures c.if-not-has_few_different.false) in
+    let all = alike-few s (tag_at s c.args.own) xs in
     omega arith
